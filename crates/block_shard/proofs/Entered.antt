@@ -1,29 +1,15 @@
 -- What a load or a store stored, and what it is to the cells.
 use Rattle.std.proofs.Common.{◌≡◌, ℕ, ◌/◌, ◌%◌, ◌<◌, Bool, true, false, ◌&&◌, ◌==◌, List, [], ◌∷◌, ◌++◌, refl, sym, ap, ◌∙◌, subst}
-use Rattle.std.specs.Prelude.{IfOk, if◌then◌else◌}
-use Rattle.std.specs.declared.result.Result.{Result}
-use Rattle.std.specs.declared.result.Result.TheVariants.{Ok, Err}
-use Rattle.dcd_base.specs.Hosts.{has_host}
-use Rattle.dcd_base.specs.declared.failures.AccessFault.{AccessFault}
-use Rattle.dcd_base.specs.declared.ids.HostId.{HostId}
-use Rattle.dcd_base.specs.declared.media.Place.{Place}
-use Rattle.dcd_base.specs.declared.steps.Actor.{Actor}
-use Rattle.dcd_base.specs.declared.steps.Stamp.{Stamp}
+use Rattle.std.specs.{Prelude.IfOk, Prelude.if◌then◌else◌, declared.result.Result.Result, declared.result.Result.TheVariants.Ok, declared.result.Result.TheVariants.Err}
+use Rattle.dcd_base.specs.{Hosts.has_host, declared.failures.AccessFault.AccessFault, declared.ids.HostId.HostId, declared.media.Place.Place, declared.steps.Actor.Actor, declared.steps.Stamp.Stamp}
+use Rattle.shard_laws.proofs.{NextStamps.next_counted, OwnGranules.same_number}
+use Rattle.shard_laws.specs.Accessing.{AddsAccess, IsAccess, StoresOwn, StoresIn, held_place, refusal_of, said_at, stripe_reply}
+use Rattle.shard_laws.specs.{Belonging.asked_at, Belonging.shard_at, Clocks.next_stamp, Stripes.Stripe}
 use Rattle.shard_laws.specs.device_rules.specs.Legal.{stored_at, word_by, written_by}
 use Rattle.granule_mem.specs.Contents.{Media, holders_in, word_in}
-use Rattle.journal_core.specs.declared.acts.Act.{Act}
-use Rattle.journal_core.specs.declared.entries.Entry.{Entry}
-use Rattle.journal_core.specs.Accesses.{access_entry, stored_unless}
-use Rattle.journal_core.specs.Entries.{is_control}
+use Rattle.journal_core.specs.{declared.acts.Act.Act, declared.entries.Entry.Entry, Accesses.access_entry, Accesses.stored_unless, Entries.is_control}
 use Rattle.media_map.specs.Places.{locate}
-use Rattle.region_config.specs.Configurations.{Configuration}
-use Rattle.region_config.specs.Granules.{granule_total}
-use Rattle.shard_laws.specs.Accessing.{AddsAccess, IsAccess, StoresOwn, StoresIn, held_place, refusal_of, said_at, stripe_reply}
-use Rattle.shard_laws.specs.Belonging.{asked_at, shard_at}
-use Rattle.shard_laws.specs.Clocks.{next_stamp}
-use Rattle.shard_laws.specs.Stripes.{Stripe}
-use Rattle.shard_laws.proofs.NextStamps.{next_counted}
-use Rattle.shard_laws.proofs.OwnGranules.{same_number}
+use Rattle.region_config.specs.{Configurations.Configuration, Granules.granule_total}
 
 -- ---- words
 

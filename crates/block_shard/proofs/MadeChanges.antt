@@ -1,17 +1,9 @@
 -- Changes that are made one after another to the granules of a shard.
 use Rattle.std.proofs.Common.{◌≡◌, ℕ, ◌+◌, ◌/◌, ◌<◌, Bool, true, false, ◌&&◌, ◌||◌, List, [], ◌∷◌, ◌++◌, length, refl, sym, ap, subst, ◌∙◌, take, get_or}
-use Rattle.std.specs.Prelude.{if◌then◌else◌}
-use Rattle.std.specs.List.{list_any}
-use Rattle.std.proofs.lemmas.List.{take_more}
-use Rattle.std.proofs.lemmas.List.Folds.{list_any-append}
-use Rattle.std.proofs.lemmas.List.Sums.{fold_push}
-use Rattle.dcd_base.specs.Words.{has_granule}
-use Rattle.dcd_base.specs.declared.media.Change.{Change}
-use Rattle.shard_laws.specs.device_rules.specs.ChangedRuns.{holders_after}
+use Rattle.std.{specs.Prelude.if◌then◌else◌, specs.List.list_any, proofs.lemmas.List.take_more, proofs.lemmas.List.Folds.list_any-append, proofs.lemmas.List.Sums.fold_push}
+use Rattle.dcd_base.specs.{Words.has_granule, declared.media.Change.Change}
+use Rattle.shard_laws.{specs.device_rules.specs.ChangedRuns.holders_after, specs.Changing.AreMadeIn, specs.Stripes.own_below, proofs.OwnGranules.own_granule}
 use Rattle.granule_mem.specs.Contents.{Media, SetsHolders, holders_in, word_in}
-use Rattle.shard_laws.specs.Changing.{AreMadeIn}
-use Rattle.shard_laws.specs.Stripes.{own_below}
-use Rattle.shard_laws.proofs.OwnGranules.{own_granule}
 
 abbrev zeroes : ℕ → Change → Bool
 zeroes g change = change.zero && has_granule change.run g

@@ -1,19 +1,10 @@
 -- The place of an address lies in the device, and so in the memory of a shard.
 use Rattle.std.proofs.Common.{◌≡◌, ℕ, suc, ◌+◌, ◌/◌, ◌%◌, ◌<◌, Bool, true, false, ◌==◌, Option, Some, None, length, refl, sym, subst, arith}
-use Rattle.std.specs.Prelude.{IfOk, if◌then◌else◌}
-use Rattle.std.proofs.lemmas.Nat.{div-add-mod', mod_below}
-use Rattle.std.specs.List.{find}
-use Rattle.std.specs.declared.result.Result.{Result}
+use Rattle.std.{proofs.lemmas.Nat.div-add-mod', proofs.lemmas.Nat.mod_below, specs.List.find, specs.Prelude.IfOk, specs.Prelude.if◌then◌else◌, specs.declared.result.Result.Result}
 use Rattle.std.specs.declared.result.Result.TheVariants.{Ok, Err}
-use Rattle.dcd_base.specs.declared.failures.AccessFault.{AccessFault}
-use Rattle.dcd_base.specs.declared.ids.HostId.{HostId}
-use Rattle.dcd_base.specs.declared.media.Place.{Place}
-use Rattle.media_map.specs.Places.{has_address, locate, placed}
-use Rattle.media_map.proofs.PlaceLemmas.{find_holds, granule_below}
-use Rattle.region_config.specs.Configurations.{Configuration}
-use Rattle.region_config.specs.Granules.{granule_total, regions_of}
-use Rattle.region_config.specs.Soundness.{IsSound}
-use Rattle.region_config.proofs.Faultless.{granules_rise}
+use Rattle.dcd_base.specs.declared.{failures.AccessFault.AccessFault, ids.HostId.HostId, media.Place.Place}
+use Rattle.media_map.{specs.Places.has_address, specs.Places.locate, specs.Places.placed, proofs.PlaceLemmas.find_holds, proofs.PlaceLemmas.granule_below}
+use Rattle.region_config.{specs.Configurations.Configuration, specs.Granules.granule_total, specs.Granules.regions_of, specs.Soundness.IsSound, proofs.Faultless.granules_rise}
 
 pub located_inside : (c : Configuration) (h : HostId) (d : ℕ) → IsSound c → h < c.hosts → IfOk (locate c h d) (λ (p : Place). p.granule < granule_total c)
 located_inside c h d sound host = by (d % 8 == 0) (find (has_address c h d) (regions_of c)) refl

@@ -1,14 +1,9 @@
 -- What reads as a request is the request that its bytes are.
 use Rattle.std.proofs.Common.{◌≡◌, ℕ, suc, ◌+◌, ◌-◌, ◌*◌, ◌/◌, ◌%◌, ◌^◌, ◌<◌, ◌≤◌, Bool, true, false, cond, not, eqb, ltb, slice_index, List, [], ◌∷◌, ◌++◌, length, get_or, take, Option, Some, None, refl, sym, ap, ◌∙◌, arith, bit_and, w16, eqb-true, eq-eqb, ltb-false, le-ltb, take_all, drop_of_length-le, take-append-drop, append-nil}
-use Rattle.std.specs.Int.{from_le_bytes}
-use Rattle.std.specs.List.{list_all}
-use Rattle.std.proofs.lemmas.Nat.{le_bytes_2, and_le_r, and_mask}
-use Rattle.dcd_base.proofs.Widths.{wide_16}
-use Rattle.cci_codec.specs.declared.messages.Request.{Request}
-use Rattle.cci_codec.specs.declared.faults.MessageFault.{MessageFault}
+use Rattle.std.{specs.Int.from_le_bytes, specs.List.list_all, proofs.lemmas.Nat.le_bytes_2, proofs.lemmas.Nat.and_le_r, proofs.lemmas.Nat.and_mask}
+use Rattle.dcd_base.{proofs.Widths.wide_16, specs.Layouts.is_byte, proofs.Fields.IsBytes, proofs.Fields.all_bytes, proofs.Fields.length_of_fields, proofs.Fields.two_bytes, proofs.Fields.spelled_reads}
 use Rattle.cci_codec.specs.Messages.{message_fault, request_in, request_fields, request_bytes, length_field, ReadsRequest, WritesRequest}
-use Rattle.dcd_base.specs.Layouts.{is_byte}
-use Rattle.dcd_base.proofs.Fields.{IsBytes, all_bytes, length_of_fields, two_bytes, spelled_reads}
+use Rattle.cci_codec.specs.declared.{faults.MessageFault.MessageFault, messages.Request.Request}
 
 no_fault : (b : Bool) (f : MessageFault) (rest : Option MessageFault) → cond b (Some f) rest ≡ None → (b ≡ false) × (rest ≡ None)
 no_fault true f rest e = absurd cc

@@ -1,9 +1,7 @@
 -- The form of a message: a header of 12 bytes and a payload.
 use Rattle.std.specs.Prelude.{◌≡◌, ℕ, ◌+◌, ◌-◌, ◌*◌, ◌/◌, ◌%◌, ◌^◌, not, ◌==◌, nat_lt, List, [], ◌∷◌, ◌++◌, length, drop, slice_index, Option, Some, None, Result, Ok, Err, ⊤, if◌then◌else◌, bit_and}
 use Rattle.std.specs.Int.{w8, w16}
-use Rattle.cci_codec.specs.declared.messages.Request.{Request}
-use Rattle.cci_codec.specs.declared.messages.Response.{Response}
-use Rattle.cci_codec.specs.declared.faults.MessageFault.{MessageFault}
+use Rattle.cci_codec.specs.declared.{messages.Request.Request, messages.Response.Response, faults.MessageFault.MessageFault}
 use Rattle.dcd_base.specs.Layouts.{Field, spelling, number_at, Number, Masked, Raw, Reserved, Reads, Writes}
 
 -- Bytes 0 to 7 of each message: bits 3:0 of byte 0 are the category, bits 20:0 of bytes 5 to 7 the length of the

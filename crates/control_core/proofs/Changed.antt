@@ -1,17 +1,10 @@
 -- The changes of a step are those of its effects.
 use Rattle.std.proofs.Common.{◌≡◌, ◌⊎◌, ℕ, ◌+◌, ◌-◌, ◌<◌, ◌≤◌, Bool, true, false, ◌&&◌, ◌||◌, leb, List, [], ◌∷◌, ◌++◌, get_or, Option, Some, None, refl, sym, ap, subst, ◌∙◌, inl, inr, arith}
-use Rattle.std.specs.Prelude.{All, fold, if◌then◌else◌}
-use Rattle.std.specs.List.{list_any}
-use Rattle.std.proofs.lemmas.Bool.{and_right, cases_lt, le-leb, le-ltb, lt-leb, lt-ltb}
-use Rattle.std.proofs.lemmas.List.Elements.{All-push}
-use Rattle.std.proofs.lemmas.List.Folds.{list_any-append}
-use Rattle.std.proofs.lemmas.List.Sums.{fold_push}
-use Rattle.cci_codec.specs.dcd_base.specs.Words.{has_granule}
-use Rattle.cci_codec.specs.dcd_base.specs.declared.media.Change.{Change}
-use Rattle.cci_codec.specs.dcd_base.specs.declared.media.Run.{Run}
+use Rattle.std.proofs.lemmas.{Bool.and_right, Bool.cases_lt, Bool.le-leb, Bool.le-ltb, Bool.lt-leb, Bool.lt-ltb, List.Elements.All-push, List.Folds.list_any-append, List.Sums.fold_push}
+use Rattle.std.specs.{List.list_any, Prelude.All, Prelude.fold, Prelude.if◌then◌else◌}
+use Rattle.cci_codec.specs.dcd_base.specs.{Words.has_granule, declared.media.Change.Change, declared.media.Run.Run}
 use Rattle.journal_core.specs.declared.outcome.Effect.{Effect}
-use Rattle.device_commands.specs.device_rules.specs.Legal.{is_zeroing}
-use Rattle.device_commands.specs.device_rules.specs.ChangedRuns.{LiesIn, holders_after, touches}
+use Rattle.device_commands.specs.device_rules.specs.{Legal.is_zeroing, ChangedRuns.LiesIn, ChangedRuns.holders_after, ChangedRuns.touches}
 use Rattle.control_core.specs.PutChanges.{AreAdded, PutOne, bits_after, bits_by, is_named, is_zero, is_zeroed, lies_between, touched_by}
 
 -- ---- numbers

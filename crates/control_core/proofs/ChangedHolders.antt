@@ -1,28 +1,16 @@
 -- The holders that the changes of a step leave are those that its effects leave.
 use Rattle.std.proofs.Common.{◌≡◌, ◌≢◌, ◌⊎◌, ℕ, ◌+◌, ◌-◌, ◌*◌, ◌%◌, ◌^◌, Bool, true, false, ◌==◌, List, [], ◌∷◌, get_or, max, bit_and, bit_or, Option, Some, None, refl, sym, ap, subst, ◌∙◌, inl, inr, arith}
-use Rattle.std.specs.Prelude.{All, fold, if◌then◌else◌}
-use Rattle.std.specs.Int.{bit_at}
-use Rattle.std.specs.Int.Bits.{or_add_and}
-use Rattle.std.specs.List.{list_all}
-use Rattle.std.proofs.lemmas.Bool.{and_parts, cases_Bool, cases_eq, cases_lt, eqb-true, false≢true, ne_eqb}
 use Rattle.std.proofs.Math.Nat.{div-eq_of_lt}
-use Rattle.std.proofs.lemmas.Nat.Bits.{and_pow, bit_at-lt, bit_at-pow_other, bit_at_or}
-use Rattle.cci_codec.specs.dcd_base.specs.Words.{has_granule}
-use Rattle.cci_codec.specs.dcd_base.specs.declared.ids.HostId.{HostId}
-use Rattle.cci_codec.specs.dcd_base.specs.declared.media.Change.{Change}
-use Rattle.journal_core.specs.Entries.{effects}
-use Rattle.journal_core.specs.Holders.{holding_after, holds}
-use Rattle.journal_core.specs.declared.entries.Entry.{Entry}
+use Rattle.std.proofs.lemmas.Bool.{and_parts, cases_Bool, cases_eq, cases_lt, eqb-true, false≢true, ne_eqb}
+use Rattle.std.{proofs.lemmas.Nat.Bits.and_pow, proofs.lemmas.Nat.Bits.bit_at-lt, proofs.lemmas.Nat.Bits.bit_at-pow_other, proofs.lemmas.Nat.Bits.bit_at_or, specs.Int.bit_at}
+use Rattle.std.specs.{Int.Bits.or_add_and, List.list_all, Prelude.All, Prelude.fold, Prelude.if◌then◌else◌}
+use Rattle.cci_codec.specs.dcd_base.specs.{Words.has_granule, declared.ids.HostId.HostId, declared.media.Change.Change, Hosts.has_host, Hosts.with_host, Hosts.without_host}
+use Rattle.journal_core.{proofs.HoldingSteps.holds-append, specs.Entries.effects, specs.Holders.holding_after, specs.Holders.holds, specs.declared.entries.Entry.Entry}
 use Rattle.journal_core.specs.declared.outcome.Effect.{Effect}
-use Rattle.journal_core.proofs.HoldingSteps.{holds-append}
-use Rattle.extent_list.specs.media_map.specs.region_config.specs.Configurations.{Configuration}
-use Rattle.extent_list.specs.media_map.specs.region_config.specs.Granules.{granule_total}
-use Rattle.device_commands.specs.device_rules.proofs.HostBits.{with_has, without_has}
-use Rattle.cci_codec.specs.dcd_base.specs.Hosts.{has_host, with_host, without_host}
-use Rattle.device_commands.specs.device_rules.specs.ChangedRuns.{AreChanges, IsSoundChange}
-use Rattle.manager_commands.specs.device_state.specs.StateAfter.{IsStateAfter}
+use Rattle.extent_list.specs.media_map.specs.region_config.specs.{Configurations.Configuration, Granules.granule_total}
+use Rattle.device_commands.specs.device_rules.{proofs.HostBits.with_has, proofs.HostBits.without_has, specs.ChangedRuns.AreChanges, specs.ChangedRuns.IsSoundChange}
+use Rattle.manager_commands.specs.device_state.specs.{StateAfter.IsStateAfter, declared.state.State.State}
 use Rattle.control_core.specs.PutChanges.{AreOfOneHost, ArePut, NameNoOthers, bits_after, is_of_host}
-use Rattle.manager_commands.specs.device_state.specs.declared.state.State.{State}
 
 -- ---- bits of the other hosts
 

@@ -1,34 +1,17 @@
 -- What a host's message comes to is the answer to it.
 use Rattle.std.proofs.Common.{◌≡◌, ℕ, ◌≤◌, true, false, List, [], ◌∷◌, ◌++◌, length, map, None, sym, ap, ◌∙◌, subst, arith}
-use Rattle.std.specs.Prelude.{All}
-use Rattle.std.specs.List.{AllByRecursion}
-use Rattle.std.specs.declared.result.Result.TheVariants.{Ok, Err}
-use Rattle.std.proofs.lemmas.List.Elements.{All-from_recursion}
+use Rattle.std.{specs.Prelude.All, specs.List.AllByRecursion, specs.declared.result.Result.TheVariants.Ok, specs.declared.result.Result.TheVariants.Err, proofs.lemmas.List.Elements.All-from_recursion}
+use Rattle.cci_codec.specs.dcd_base.specs.declared.{capacity.Extent.Extent, ids.HostId.HostId, steps.Actor.Actor, steps.LogId.LogId}
 use Rattle.cci_codec.specs.declared.messages.Request.{Request}
-use Rattle.cci_codec.specs.dcd_base.specs.declared.capacity.Extent.{Extent}
-use Rattle.cci_codec.specs.dcd_base.specs.declared.ids.HostId.{HostId}
-use Rattle.cci_codec.specs.dcd_base.specs.declared.steps.Actor.{Actor}
-use Rattle.cci_codec.specs.dcd_base.specs.declared.steps.LogId.{LogId}
-use Rattle.extent_list.specs.dcd_codes.specs.Rules.{code_of}
-use Rattle.extent_list.specs.dcd_codes.specs.declared.rules.Rule.{Rule}
+use Rattle.extent_list.specs.{dcd_codes.specs.Rules.code_of, dcd_codes.specs.declared.rules.Rule.Rule, media_map.specs.region_config.specs.Configurations.Configuration}
 use Rattle.event_records.specs.declared.events.Event.{Event}
-use Rattle.extent_list.specs.media_map.specs.region_config.specs.Configurations.{Configuration}
-use Rattle.host_payloads.specs.HostPayloads.{host_request}
-use Rattle.host_payloads.specs.declared.requests.HostRequest.{HostRequest}
-use Rattle.journal_core.specs.Entries.{effects}
-use Rattle.journal_core.specs.declared.acts.Act.{Act}
-use Rattle.journal_core.specs.declared.acts.Reply.{Reply}
-use Rattle.journal_core.specs.declared.entries.Entry.{Entry}
-use Rattle.journal_core.specs.declared.outcome.Effect.{Effect}
-use Rattle.device_commands.specs.declared.log_records.LogRecords.{LogRecords}
+use Rattle.host_payloads.specs.{HostPayloads.host_request, declared.requests.HostRequest.HostRequest}
+use Rattle.journal_core.specs.{Entries.effects, declared.acts.Act.Act, declared.acts.Reply.Reply, declared.entries.Entry.Entry, declared.outcome.Effect.Effect}
+use Rattle.device_commands.specs.{declared.log_records.LogRecords.LogRecords, device_rules.specs.Outcomes.Outcome}
+use Rattle.device_commands.specs.device_rules.specs.{ResponseOutcomes.response_records, ResponseOutcomes.respond_changes, Views.View, Views.view_after, Views.view_of}
 use Rattle.device_commands.specs.device_rules.specs.Answers.{dropped, effects_with, host_outcome, host_result, host_result_in, host_rule, reply_with, response, unless}
-use Rattle.device_commands.specs.device_rules.specs.Outcomes.{Outcome}
-use Rattle.device_commands.specs.device_rules.specs.ResponseOutcomes.{response_records, respond_changes}
-use Rattle.device_commands.specs.device_rules.specs.Views.{View, view_after, view_of}
-use Rattle.control_core.specs.Deciding.{IsDecidedBy, IsShort}
-use Rattle.control_core.specs.Doing.{IsDone}
+use Rattle.control_core.specs.{Deciding.IsDecidedBy, Deciding.IsShort, Doing.IsDone, declared.decided.Decided.Decided}
 use Rattle.manager_commands.specs.device_state.specs.Updates.{IsOfLog}
-use Rattle.control_core.specs.declared.decided.Decided.{Decided}
 
 -- ---- the logs that are told are of the device
 

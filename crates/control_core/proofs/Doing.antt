@@ -1,34 +1,17 @@
 -- A draft that is entered is its outcome.
 use Rattle.std.proofs.Common.{◌≡◌, ◌<◌, List, [], ◌++◌, map, flat_map, sym, ap, ◌∙◌}
-use Rattle.std.specs.Prelude.{fold}
-use Rattle.std.specs.List.{list_any}
-use Rattle.std.proofs.lemmas.List.Sums.{fold-append}
-use Rattle.cci_codec.specs.declared.messages.Request.{Request}
-use Rattle.cci_codec.specs.dcd_base.specs.declared.ids.HostId.{HostId}
-use Rattle.extent_list.specs.dcd_codes.specs.declared.codes.Code.{Code}
-use Rattle.extent_list.specs.ExtentLists.{has_extent_of}
-use Rattle.extent_list.specs.media_map.specs.region_config.specs.Configurations.{Configuration}
-use Rattle.extent_list.specs.HostLists.{Lists}
-use Rattle.journal_core.specs.Entries.{effects}
-use Rattle.journal_core.specs.declared.entries.Entry.{Entry}
-use Rattle.journal_core.specs.declared.outcome.Effect.{Effect}
-use Rattle.device_commands.specs.Drafts.{Drafts, HasExtentsOf}
-use Rattle.manager_commands.specs.device_state.specs.StateAfter.{IsStateAfter}
-use Rattle.device_commands.specs.device_rules.specs.Views.{View, lists_in, view_after, view_of}
-use Rattle.device_commands.specs.declared.draft.Draft.{Draft}
-use Rattle.device_commands.specs.device_rules.specs.Answers.{response}
-use Rattle.device_commands.specs.device_rules.specs.Hosts.{accepted_after, accepted_of, offers_after, offers_of}
-use Rattle.device_commands.specs.device_rules.specs.Logs.{log_of}
+use Rattle.std.{specs.Prelude.fold, specs.List.list_any, proofs.lemmas.List.Sums.fold-append}
+use Rattle.cci_codec.specs.{declared.messages.Request.Request, dcd_base.specs.declared.ids.HostId.HostId}
+use Rattle.extent_list.specs.{dcd_codes.specs.declared.codes.Code.Code, ExtentLists.has_extent_of, media_map.specs.region_config.specs.Configurations.Configuration, HostLists.Lists}
+use Rattle.journal_core.specs.{Entries.effects, declared.entries.Entry.Entry, declared.outcome.Effect.Effect, declared.acts.Reply.Reply}
+use Rattle.device_commands.specs.{Drafts.Drafts, Drafts.HasExtentsOf, declared.draft.Draft.Draft, device_rules.specs.Answers.response}
+use Rattle.device_commands.specs.device_rules.specs.{Hosts.accepted_after, Hosts.accepted_of, Hosts.offers_after, Hosts.offers_of, Logs.log_of}
 use Rattle.device_commands.specs.device_rules.specs.Outcomes.{Outcome, effects_of, ended, entered_all}
-use Rattle.device_commands.specs.device_rules.specs.TagTable.{IsTable, among, among_offers, ending}
+use Rattle.device_commands.specs.device_rules.specs.{TagTable.IsTable, TagTable.among, TagTable.among_offers, TagTable.ending, Views.View, Views.lists_in, Views.view_after, Views.view_of}
+use Rattle.manager_commands.specs.device_state.{specs.StateAfter.IsStateAfter, specs.declared.state.State.State, specs.EnteredLists.lists_by, proofs.Keeping.lists_fields}
 use Rattle.tag_refs.specs.declared.entries.TagEntry.{TagEntry}
-use Rattle.control_core.specs.Doing.{IsDone, IsOfHost}
+use Rattle.control_core.{proofs.Recorded.told_is, specs.Doing.IsDone, specs.Doing.IsOfHost}
 use Rattle.control_core.specs.Recording.{AreRecorded, after_changes, ending_with, events_by, records_told}
-use Rattle.manager_commands.specs.device_state.specs.declared.state.State.{State}
-use Rattle.control_core.proofs.Recorded.{told_is}
-use Rattle.journal_core.specs.declared.acts.Reply.{Reply}
-use Rattle.manager_commands.specs.device_state.specs.EnteredLists.{lists_by}
-use Rattle.manager_commands.specs.device_state.proofs.Keeping.{lists_fields}
 
 module _ (c : Configuration) (before : List Entry) (h : HostId) (o : Outcome) (of : IsOfHost c before h o) where
   -- the host's own lists, as the changes leave them

@@ -1,17 +1,10 @@
 -- What a draft says of the first broken rule.
-use Rattle.std.proofs.Common.{◌≡◌, List, ap, ◌∙◌}
-use Rattle.std.specs.Result.{result_err}
-use Rattle.std.specs.declared.result.Result.{Result}
+use Rattle.std.{proofs.Common.◌≡◌, proofs.Common.List, proofs.Common.ap, proofs.Common.◌∙◌, specs.Result.result_err, specs.declared.result.Result.Result}
 use Rattle.std.specs.declared.result.Result.TheVariants.{Ok, Err}
-use Rattle.cci_codec.specs.declared.messages.Request.{Request}
-use Rattle.cci_codec.specs.dcd_base.specs.declared.ids.HostId.{HostId}
-use Rattle.extent_list.specs.dcd_codes.specs.Rules.{ByRow}
-use Rattle.extent_list.specs.dcd_codes.specs.declared.refusals.Refusal.{Refusal}
-use Rattle.fm_payloads.specs.ManagerPayloads.{manager_request}
-use Rattle.fm_payloads.specs.declared.requests.FmRequest.{FmRequest}
-use Rattle.journal_core.specs.Entries.{effects}
-use Rattle.journal_core.specs.declared.entries.Entry.{Entry}
-use Rattle.extent_list.specs.media_map.specs.region_config.specs.Configurations.{Configuration}
+use Rattle.cci_codec.specs.{declared.messages.Request.Request, dcd_base.specs.declared.ids.HostId.HostId}
+use Rattle.extent_list.specs.{dcd_codes.specs.Rules.ByRow, dcd_codes.specs.declared.refusals.Refusal.Refusal, media_map.specs.region_config.specs.Configurations.Configuration}
+use Rattle.fm_payloads.specs.{ManagerPayloads.manager_request, declared.requests.FmRequest.FmRequest}
+use Rattle.journal_core.specs.{Entries.effects, declared.entries.Entry.Entry}
 use Rattle.host_commands.specs.HostMessages.{IsDrafted}
 use Rattle.manager_commands.specs.ManagerMessages.{rule_after}
 use Rattle.device_commands.specs.declared.draft.Draft.{Draft}

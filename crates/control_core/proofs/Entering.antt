@@ -1,26 +1,13 @@
 -- A step is entered in a control that keeps no entries, by every journal that leads to it.
-use Rattle.std.proofs.Common.{◌≡◌, List, [], ◌∷◌, ◌++◌, sym, subst}
-use Rattle.std.specs.Prelude.{All, IfOk}
-use Rattle.std.specs.declared.result.Result.{Result}
-use Rattle.std.specs.declared.result.Result.TheVariants.{Ok, Err}
-use Rattle.std.proofs.lemmas.List.Elements.{All-push}
-use Rattle.journal_core.specs.declared.entries.Entry.{Entry}
-use Rattle.journal_core.specs.declared.outcome.Effect.{Effect}
-use Rattle.journal_core.specs.Entries.{next_stamp}
-use Rattle.journal_core.proofs.EachSteps.{Each-push}
+use Rattle.std.proofs.{Common.◌≡◌, Common.List, Common.[], Common.◌∷◌, Common.◌++◌, Common.sym, Common.subst, lemmas.List.Elements.All-push}
+use Rattle.std.specs.{Prelude.All, Prelude.IfOk, declared.result.Result.Result, declared.result.Result.TheVariants.Ok, declared.result.Result.TheVariants.Err}
+use Rattle.journal_core.{specs.declared.entries.Entry.Entry, specs.declared.outcome.Effect.Effect, specs.Entries.next_stamp, proofs.EachSteps.Each-push}
 use Rattle.extent_list.specs.media_map.specs.region_config.specs.Configurations.{Configuration}
 use Rattle.device_commands.specs.device_rules.specs.Legal.{Meets}
-use Rattle.manager_commands.specs.device_state.specs.Entered.{IsEntered}
-use Rattle.manager_commands.specs.device_state.specs.EnteredLists.{Fits, lists_of}
-use Rattle.manager_commands.specs.device_state.specs.StateAfter.{IsReached}
-use Rattle.manager_commands.specs.device_state.specs.Updates.{IsOfDevice}
-use Rattle.manager_commands.specs.device_state.specs.declared.state.State.{State}
-use Rattle.manager_commands.specs.device_state.proofs.EnteredSteps.{fits as legal_fits, kept-entered, of_device}
-use Rattle.control_core.specs.Deciding.{Holds, IsShort}
-use Rattle.control_core.specs.Pasts.{EntersStep, IsOfStep, IsPast, LiveControlled}
-use Rattle.control_core.specs.PutChanges.{AreOfOneHost}
-use Rattle.control_core.proofs.Stamped.{stamped_next}
-use Rattle.control_core.proofs.OneHost.{of_one_host}
+use Rattle.manager_commands.specs.device_state.{proofs.EnteredSteps.fits as legal_fits, proofs.EnteredSteps.kept-entered, proofs.EnteredSteps.of_device, specs.Entered.IsEntered}
+use Rattle.manager_commands.specs.device_state.specs.{EnteredLists.Fits, EnteredLists.lists_of, StateAfter.IsReached, Updates.IsOfDevice, declared.state.State.State}
+use Rattle.control_core.{proofs.OneHost.of_one_host, proofs.Stamped.stamped_next, specs.Deciding.Holds, specs.Deciding.IsShort}
+use Rattle.control_core.specs.{Pasts.EntersStep, Pasts.IsOfStep, Pasts.IsPast, Pasts.LiveControlled, PutChanges.AreOfOneHost}
 
 -- what is so by each past is so by every past
 pub by_every : {T E : Type 0} (r : Result T E) (P : List Entry → Type 0) (Q : List Entry → T → Type 0) → ((past : List Entry) → P past → IfOk r (Q past)) → IfOk r (λ x. (past : List Entry) → P past → Q past x)

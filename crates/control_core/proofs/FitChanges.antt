@@ -4,17 +4,11 @@ use Rattle.cci_codec.specs.dcd_base.specs.declared.ids.HostId.{HostId}
 use Rattle.extent_list.specs.media_map.specs.region_config.specs.Configurations.{Configuration}
 use Rattle.fm_payloads.specs.declared.requests.FmRequest.{FmRequest}
 use Rattle.host_payloads.specs.declared.requests.HostRequest.{HostRequest}
-use Rattle.journal_core.specs.Entries.{effects}
-use Rattle.journal_core.specs.declared.outcome.Effect.{Effect}
-use Rattle.device_commands.specs.device_rules.specs.Answers.{host_outcome, host_rule, manager_outcome, manager_rule}
-use Rattle.device_commands.specs.device_rules.specs.Logs.{log_of}
-use Rattle.device_commands.specs.device_rules.specs.Outcomes.{Outcome, effects_of, ended, entered_all}
-use Rattle.device_commands.specs.device_rules.specs.Views.{view_of}
-use Rattle.manager_commands.specs.device_state.specs.EnteredLists.{Fits, lists_of}
-use Rattle.manager_commands.specs.device_state.specs.StateAfter.{IsReached}
-use Rattle.manager_commands.specs.device_state.specs.declared.state.State.{State}
-use Rattle.manager_commands.specs.device_state.proofs.Fitting.{host_fits, manager_fits}
-use Rattle.manager_commands.specs.device_state.proofs.OwnEffects.{fits_front}
+use Rattle.journal_core.specs.{Entries.effects, declared.outcome.Effect.Effect}
+use Rattle.device_commands.specs.device_rules.specs.{Answers.host_outcome, Answers.host_rule, Answers.manager_outcome, Answers.manager_rule, Logs.log_of}
+use Rattle.device_commands.specs.device_rules.specs.{Outcomes.Outcome, Outcomes.effects_of, Outcomes.ended, Outcomes.entered_all, Views.view_of}
+use Rattle.manager_commands.specs.device_state.{proofs.Fitting.host_fits, proofs.Fitting.manager_fits, proofs.OwnEffects.fits_front, specs.EnteredLists.Fits, specs.EnteredLists.lists_of}
+use Rattle.manager_commands.specs.device_state.specs.{StateAfter.IsReached, declared.state.State.State}
 
 module _ (c : Configuration) (s : State) (reached : IsReached c s) where
   changes_fit : (o : Outcome) → Fits c (lists_of s) 1 (effects_of c (effects reached.journal) o) → Fits c (lists_of s) 1 o.changes

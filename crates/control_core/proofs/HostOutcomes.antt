@@ -1,19 +1,12 @@
 -- Which tags end by a host's command that breaks no rule.
 use Rattle.std.proofs.Common.{◌≡◌, ◌<◌, true, false, List, [], ◌++◌, None, refl, sym, ap, ◌∙◌}
 use Rattle.cci_codec.specs.dcd_base.specs.declared.ids.HostId.{HostId}
-use Rattle.extent_list.specs.media_map.specs.region_config.specs.Configurations.{Configuration}
-use Rattle.extent_list.specs.media_map.specs.region_config.specs.Soundness.{IsSound}
+use Rattle.extent_list.specs.media_map.specs.region_config.specs.{Configurations.Configuration, Soundness.IsSound}
 use Rattle.host_payloads.specs.declared.requests.HostRequest.{HostRequest}
-use Rattle.journal_core.specs.Entries.{effects}
-use Rattle.journal_core.specs.declared.entries.Entry.{Entry}
-use Rattle.journal_core.specs.declared.outcome.Effect.{Effect}
-use Rattle.device_commands.specs.device_rules.specs.Answers.{host_outcome, host_rule}
-use Rattle.device_commands.specs.device_rules.specs.Hosts.{accepted_of, offers_of}
-use Rattle.device_commands.specs.device_rules.specs.Legal.{Legal}
-use Rattle.device_commands.specs.device_rules.specs.Outcomes.{Outcome, ended}
-use Rattle.device_commands.specs.device_rules.specs.Views.{View, view_of}
-use Rattle.device_commands.specs.device_rules.specs.TagTable.{IsTable, among, among_offers, ending}
-use Rattle.device_commands.specs.device_rules.proofs.GivingSteps.{table-release, table-response}
+use Rattle.journal_core.specs.{Entries.effects, declared.entries.Entry.Entry, declared.outcome.Effect.Effect}
+use Rattle.device_commands.specs.device_rules.{proofs.GivingSteps.table-release, proofs.GivingSteps.table-response, specs.Answers.host_outcome, specs.Answers.host_rule}
+use Rattle.device_commands.specs.device_rules.specs.{Hosts.accepted_of, Hosts.offers_of, Legal.Legal, Outcomes.Outcome, Outcomes.ended}
+use Rattle.device_commands.specs.device_rules.specs.{TagTable.IsTable, TagTable.among, TagTable.among_offers, TagTable.ending, Views.View, Views.view_of}
 use Rattle.tag_refs.specs.declared.entries.TagEntry.{TagEntry}
 use Rattle.control_core.specs.Doing.{IsOfHost}
 

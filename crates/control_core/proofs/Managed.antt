@@ -1,48 +1,20 @@
 -- A command of the Fabric Manager is entered as its outcome.
 use Rattle.std.proofs.Common.{◌≡◌, ℕ, ◌+◌, ◌<◌, ◌≤◌, Some, List, [], ◌++◌, length, map, flat_map, None, refl, sym, ap, ◌∙◌, subst, arith, zero, suc}
-use Rattle.std.specs.Prelude.{All}
-use Rattle.std.specs.List.{AllByRecursion, range_with_len}
-use Rattle.std.specs.declared.result.Result.TheVariants.{Ok, Err}
+use Rattle.std.specs.{Prelude.All, List.AllByRecursion, List.range_with_len, declared.result.Result.TheVariants.Ok, declared.result.Result.TheVariants.Err}
+use Rattle.cci_codec.specs.dcd_base.specs.declared.{capacity.Tag.Tag, ids.HostId.HostId, steps.Actor.Actor, steps.LogId.LogId}
 use Rattle.cci_codec.specs.declared.messages.Request.{Request}
-use Rattle.cci_codec.specs.dcd_base.specs.declared.capacity.Tag.{Tag}
-use Rattle.cci_codec.specs.dcd_base.specs.declared.ids.HostId.{HostId}
-use Rattle.cci_codec.specs.dcd_base.specs.declared.steps.Actor.{Actor}
-use Rattle.cci_codec.specs.dcd_base.specs.declared.steps.LogId.{LogId}
-use Rattle.extent_list.specs.dcd_codes.specs.Rules.{ByRow, code_of}
-use Rattle.extent_list.specs.dcd_codes.specs.declared.codes.Code.{Code}
-use Rattle.extent_list.specs.dcd_codes.specs.declared.refusals.Refusal.{Refusal}
-use Rattle.extent_list.specs.dcd_codes.specs.declared.rules.Rule.{Rule}
+use Rattle.extent_list.specs.dcd_codes.specs.{Rules.ByRow, Rules.code_of, declared.codes.Code.Code, declared.refusals.Refusal.Refusal, declared.rules.Rule.Rule}
+use Rattle.extent_list.specs.media_map.specs.region_config.specs.{Configurations.Configuration, Soundness.IsSound}
 use Rattle.event_records.specs.declared.events.Event.{Event}
-use Rattle.fm_payloads.specs.ManagerPayloads.{manager_request}
-use Rattle.fm_payloads.specs.declared.requests.FmRequest.{FmRequest}
-use Rattle.extent_list.specs.media_map.specs.region_config.specs.Configurations.{Configuration}
-use Rattle.extent_list.specs.media_map.specs.region_config.specs.Soundness.{IsSound}
-use Rattle.journal_core.specs.Entries.{effects}
-use Rattle.journal_core.specs.declared.acts.Act.{Act}
-use Rattle.journal_core.specs.declared.acts.Reply.{Reply}
-use Rattle.journal_core.specs.declared.entries.Entry.{Entry}
-use Rattle.journal_core.specs.declared.outcome.Effect.{Effect}
-use Rattle.device_commands.specs.Drafts.{Informs, IsOutcome, as_records}
-use Rattle.manager_commands.specs.device_state.specs.StateAfter.{IsStateAfter}
-use Rattle.device_commands.specs.declared.draft.Draft.{Draft}
-use Rattle.device_commands.specs.declared.log_records.LogRecords.{LogRecords}
+use Rattle.fm_payloads.specs.{ManagerPayloads.manager_request, declared.requests.FmRequest.FmRequest}
+use Rattle.journal_core.specs.{Entries.effects, declared.acts.Act.Act, declared.acts.Reply.Reply, declared.entries.Entry.Entry, declared.outcome.Effect.Effect}
+use Rattle.device_commands.specs.{Drafts.Informs, Drafts.IsOutcome, Drafts.as_records, declared.draft.Draft.Draft, declared.log_records.LogRecords.LogRecords}
+use Rattle.device_commands.specs.device_rules.proofs.{LegalSound.legal_is_sound, ReferenceSteps.ended-reference}
 use Rattle.device_commands.specs.device_rules.specs.Answers.{effects_with, manager_outcome, manager_result, manager_rule, reply_with, response, unless}
-use Rattle.device_commands.specs.device_rules.specs.Legal.{Legal}
-use Rattle.device_commands.specs.device_rules.specs.Logs.{log_of}
-use Rattle.device_commands.specs.device_rules.specs.Outcomes.{Outcome, ended, entered_all}
-use Rattle.device_commands.specs.device_rules.specs.Views.{View, view_of}
-use Rattle.device_commands.specs.device_rules.proofs.ReferenceSteps.{ended-reference}
-use Rattle.device_commands.specs.device_rules.proofs.LegalSound.{legal_is_sound}
-use Rattle.control_core.specs.Deciding.{IsDecidedBy, IsShort}
-use Rattle.control_core.specs.Doing.{IsDone}
-use Rattle.control_core.specs.Managing.{Manages, ended_by, changed_host}
-use Rattle.control_core.specs.Recording.{events_of, records_told}
-use Rattle.manager_commands.specs.device_state.specs.Updates.{IsOfLog}
-use Rattle.control_core.specs.declared.decided.Decided.{Decided}
-use Rattle.manager_commands.specs.device_state.specs.declared.state.State.{State}
-use Rattle.control_core.proofs.Decisions.{records_known}
-use Rattle.control_core.proofs.Recorded.{told_is}
-use Rattle.manager_commands.specs.ManagerMessages.{DraftsFor}
+use Rattle.device_commands.specs.device_rules.specs.{Legal.Legal, Logs.log_of, Outcomes.Outcome, Outcomes.ended, Outcomes.entered_all, Views.View, Views.view_of}
+use Rattle.manager_commands.specs.{device_state.specs.StateAfter.IsStateAfter, device_state.specs.Updates.IsOfLog, device_state.specs.declared.state.State.State, ManagerMessages.DraftsFor}
+use Rattle.control_core.{proofs.Decisions.records_known, proofs.Recorded.told_is, specs.Deciding.IsDecidedBy, specs.Deciding.IsShort, specs.Doing.IsDone}
+use Rattle.control_core.specs.{Managing.Manages, Managing.ended_by, Managing.changed_host, Recording.events_of, Recording.records_told, declared.decided.Decided.Decided}
 
 -- ---- the draft
 

@@ -1,31 +1,15 @@
 -- What a 5604h and a 5605h that break no rule come to.
 use Rattle.std.proofs.Common.{◌≡◌, ℕ, ◌<◌, ◌≤◌, List, None, arith, length, refl, subst, sym}
 use Rattle.std.specs.Prelude.{All, IfSome}
-use Rattle.cci_codec.specs.dcd_base.specs.declared.capacity.Extent.{Extent}
-use Rattle.cci_codec.specs.dcd_base.specs.declared.capacity.Tag.{Tag}
+use Rattle.cci_codec.specs.dcd_base.specs.declared.capacity.{Extent.Extent, Tag.Tag}
 use Rattle.fm_payloads.specs.declared.requests.FmRequest.{FmRequest}
-use Rattle.extent_list.specs.media_map.specs.region_config.specs.Configurations.{Configuration}
-use Rattle.extent_list.specs.media_map.specs.region_config.specs.Soundness.{IsSound}
-use Rattle.device_commands.specs.Drafts.{Drafts}
-use Rattle.device_commands.specs.declared.draft.Draft.{Draft}
-use Rattle.device_commands.specs.declared.log_records.LogRecords.{LogRecords}
-use Rattle.journal_core.specs.Entries.{effects}
-use Rattle.journal_core.specs.declared.entries.Entry.{Entry}
-use Rattle.device_commands.specs.device_rules.specs.Answers.{manager_outcome, manager_rule}
-use Rattle.device_commands.specs.device_rules.specs.Legal.{Legal}
+use Rattle.extent_list.specs.media_map.specs.region_config.specs.{Configurations.Configuration, Soundness.IsSound}
+use Rattle.device_commands.specs.{Drafts.Drafts, declared.draft.Draft.Draft, declared.log_records.LogRecords.LogRecords, device_rules.proofs.Adding.row_of}
+use Rattle.device_commands.specs.device_rules.{proofs.GivingSteps.table-removal, proofs.LeavingSteps.removal_row, specs.Answers.manager_outcome, specs.Answers.manager_rule, specs.Legal.Legal}
 use Rattle.device_commands.specs.device_rules.specs.Views.{view_after, view_of}
-use Rattle.device_commands.specs.device_rules.proofs.GivingSteps.{table-removal}
-use Rattle.device_commands.specs.device_rules.proofs.LeavingSteps.{removal_row}
-use Rattle.device_commands.specs.device_rules.proofs.Adding.{row_of}
-use Rattle.control_core.specs.Doing.{IsOfHost}
-use Rattle.control_core.specs.Managing.{changed_host}
-use Rattle.control_core.specs.Recording.{events_by}
-use Rattle.manager_commands.specs.ManagerMessages.{DraftsFor}
-use Rattle.manager_commands.specs.device_state.specs.StateAfter.{IsStateAfter}
-use Rattle.manager_commands.specs.device_state.specs.Updates.{IsOfLog}
-use Rattle.manager_commands.specs.device_state.specs.declared.state.State.{State}
-use Rattle.control_core.proofs.Decisions.{records_known}
-use Rattle.control_core.proofs.HostOutcomes.{none_ended}
+use Rattle.journal_core.specs.{Entries.effects, declared.entries.Entry.Entry}
+use Rattle.control_core.{specs.Doing.IsOfHost, specs.Managing.changed_host, specs.Recording.events_by, proofs.Decisions.records_known, proofs.HostOutcomes.none_ended}
+use Rattle.manager_commands.specs.{ManagerMessages.DraftsFor, device_state.specs.StateAfter.IsStateAfter, device_state.specs.Updates.IsOfLog, device_state.specs.declared.state.State.State}
 
 pub remove_host : (c : Configuration) (before : List Entry) (h flags r bytes : ℕ) (tag : Tag) (list : List Extent) → manager_rule c (effects before) (λ k. view_of c k before) (FmRequest.Remove h flags r bytes tag list) ≡ None → h < c.hosts
 remove_host c before h flags r bytes tag list row = (removal_row c (λ k. view_of c k before) h flags r tag list row).host

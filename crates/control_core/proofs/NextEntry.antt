@@ -1,21 +1,13 @@
 -- The entry that comes next meets what the entries before it ask.
 use Rattle.std.proofs.Common.{◌≡◌, ◌==◌, ℕ, suc, true, false, List, [], ◌∷◌, ◌++◌, length, ◌+◌, refl, sym, subst, arith}
-use Rattle.std.specs.Prelude.{IsTrue}
-use Rattle.std.proofs.lemmas.Bool.{eqb-true}
+use Rattle.std.{specs.Prelude.IsTrue, proofs.lemmas.Bool.eqb-true}
 use Rattle.cci_codec.specs.dcd_base.specs.declared.steps.Actor.{Actor}
-use Rattle.journal_core.specs.declared.acts.Act.{Act}
-use Rattle.journal_core.specs.declared.entries.Entry.{Entry}
-use Rattle.journal_core.specs.declared.outcome.Effect.{Effect}
+use Rattle.journal_core.{specs.declared.acts.Act.Act, specs.declared.entries.Entry.Entry, specs.declared.outcome.Effect.Effect, proofs.Rising.rising_none, specs.Entries.next_entry}
 use Rattle.extent_list.specs.media_map.specs.region_config.specs.Configurations.{Configuration}
-use Rattle.journal_core.proofs.Rising.{rising_none}
-use Rattle.device_commands.specs.device_rules.specs.Answers.{answer}
-use Rattle.device_commands.specs.device_rules.specs.Legal.{Meets}
-use Rattle.control_core.specs.Deciding.{AreStamped, Holds, IsDecidedBy, IsShort}
-use Rattle.control_core.specs.Pasts.{EntersStep, IsOfStep, IsPast, LiveControlled}
-use Rattle.control_core.specs.declared.decided.Decided.{Decided}
-use Rattle.journal_core.specs.Entries.{next_entry}
-use Rattle.control_core.specs.Steps.{Controlled, IsNextEntry, MayStep, journal_entry}
+use Rattle.device_commands.specs.device_rules.specs.{Answers.answer, Legal.Meets}
 use Rattle.control_core.proofs.Entering.{holds_next, past_entered, past_held}
+use Rattle.control_core.specs.{Deciding.AreStamped, Deciding.Holds, Deciding.IsDecidedBy, Deciding.IsShort, Pasts.EntersStep, Pasts.IsOfStep, Pasts.IsPast, Pasts.LiveControlled}
+use Rattle.control_core.specs.{Steps.Controlled, Steps.IsNextEntry, Steps.MayStep, Steps.journal_entry, declared.decided.Decided.Decided}
 
 never : IsTrue false → ⊥
 never e = cc

@@ -1,23 +1,14 @@
 -- The effects of a step give and take granules of one host, or zero granules.
-use Rattle.std.proofs.Common.{◌≡◌, true, List, Option, Some, None, refl}
+use Rattle.std.proofs.{Common.◌≡◌, Common.true, Common.List, Common.Option, Common.Some, Common.None, Common.refl, lemmas.Bool.eq-eqb}
 use Rattle.std.specs.List.{list_all}
-use Rattle.std.proofs.lemmas.Bool.{eq-eqb}
-use Rattle.cci_codec.specs.dcd_base.specs.declared.ids.HostId.{HostId}
-use Rattle.cci_codec.specs.dcd_base.specs.declared.steps.LogId.{LogId}
+use Rattle.cci_codec.specs.dcd_base.specs.declared.{ids.HostId.HostId, steps.LogId.LogId}
 use Rattle.fm_payloads.specs.declared.requests.FmRequest.{FmRequest}
-use Rattle.journal_core.specs.Entries.{effects}
-use Rattle.journal_core.specs.declared.entries.Entry.{Entry}
-use Rattle.journal_core.specs.declared.outcome.Effect.{Effect}
+use Rattle.journal_core.specs.{Entries.effects, declared.entries.Entry.Entry, declared.outcome.Effect.Effect}
 use Rattle.extent_list.specs.media_map.specs.region_config.specs.Configurations.{Configuration}
-use Rattle.device_commands.specs.device_rules.specs.Answers.{manager_outcome, scrubbed}
-use Rattle.device_commands.specs.device_rules.specs.Legal.{Meets}
-use Rattle.device_commands.specs.device_rules.specs.Logs.{log_of}
-use Rattle.device_commands.specs.device_rules.specs.Outcomes.{Outcome, effects_of}
-use Rattle.device_commands.specs.device_rules.specs.ReleaseOutcomes.{is_cleaning, is_forced, removed}
-use Rattle.device_commands.specs.device_rules.specs.Tags.{is_referenced}
+use Rattle.device_commands.specs.device_rules.{proofs.LegalSteps.step_case, specs.Answers.manager_outcome, specs.Answers.scrubbed, specs.Legal.Meets, specs.Logs.log_of}
+use Rattle.device_commands.specs.device_rules.specs.{Outcomes.Outcome, Outcomes.effects_of, ReleaseOutcomes.is_cleaning, ReleaseOutcomes.is_forced, ReleaseOutcomes.removed, Tags.is_referenced}
 use Rattle.device_commands.specs.device_rules.specs.Views.{View, view_of}
 use Rattle.device_commands.specs.device_rules.proofs.EffectKinds.{PassClearing, PassHeld, PassRecords, any_log, clear_passes, host_passes, outcome_passes, reference_passes, removals_pass, tells_any, unhold_passes, zeroes_pass}
-use Rattle.device_commands.specs.device_rules.proofs.LegalSteps.{step_case}
 use Rattle.control_core.specs.PutChanges.{AreOfOneHost, is_of_host}
 
 -- what is of no host is of any

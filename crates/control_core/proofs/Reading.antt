@@ -1,48 +1,22 @@
 -- What a control tells of its device is what the effects so far say.
 use Rattle.std.proofs.Common.{◌≡◌, ℕ, zero, suc, ◌+◌, ◌<◌, Bool, List, [], ◌∷◌, ◌++◌, length, get_or, cond, refl, sym, ap, subst, ◌∙◌, arith, zero-add}
+use Rattle.std.{proofs.lemmas.List.length-append, proofs.lemmas.List.Sums.length-filter, proofs.lemmas.List.Sums.sum_by-cons, specs.List.AllByRecursion, specs.List.range_with_len}
 use Rattle.std.specs.Prelude.{count_by, flat_map, map, sum_by}
-use Rattle.std.specs.List.{AllByRecursion, range_with_len}
-use Rattle.std.proofs.lemmas.List.{length-append}
-use Rattle.std.proofs.lemmas.List.Sums.{length-filter, sum_by-cons}
-use Rattle.cci_codec.specs.dcd_base.specs.declared.capacity.Extent.{Extent}
-use Rattle.cci_codec.specs.dcd_base.specs.declared.ids.HostId.{HostId}
-use Rattle.cci_codec.specs.dcd_base.specs.declared.steps.LogId.{LogId}
-use Rattle.event_log.specs.LogStates.{LogState}
-use Rattle.event_log.specs.Logs.{places_in, state_of, IsLogOf}
-use Rattle.device_commands.specs.device_rules.specs.GranuleCells.{status_of}
-use Rattle.selection.specs.granule_map.specs.StateLists.{count_of, same_state, is_free_at}
-use Rattle.selection.specs.granule_map.specs.declared.states.GranuleState.{GranuleState}
-use Rattle.selection.specs.granule_map.specs.Tables.{cell_at}
-use Rattle.manager_commands.specs.device_state.specs.StateAfter.{IsReached, IsStateAfter, part_of}
-use Rattle.extent_list.specs.HostLists.{Lists}
-use Rattle.journal_core.specs.Entries.{effects}
-use Rattle.journal_core.specs.declared.entries.Entry.{Entry}
-use Rattle.journal_core.specs.declared.outcome.Effect.{Effect}
-use Rattle.journal_core.specs.declared.outcome.HeldKind.{HeldKind}
-use Rattle.extent_list.specs.media_map.specs.Places.{run_of}
-use Rattle.extent_list.specs.media_map.proofs.RunLemmas.{granular_from}
-use Rattle.extent_list.specs.media_map.specs.region_config.specs.Configurations.{Configuration}
-use Rattle.extent_list.specs.media_map.specs.region_config.specs.Granules.{granule_total}
-use Rattle.extent_list.specs.media_map.specs.region_config.specs.Soundness.{IsSound}
-use Rattle.selection.proofs.Placed.{run_below}
-use Rattle.device_commands.specs.device_rules.proofs.Holding.{present_whole}
-use Rattle.device_commands.specs.device_rules.proofs.Homes.{made_granular, made_is_run, made_region}
-use Rattle.device_commands.specs.device_rules.proofs.LegalSound.{legal_is_sound}
-use Rattle.device_commands.specs.device_rules.specs.Pictures.{picture_of}
-use Rattle.device_commands.specs.device_rules.specs.Standing.{IsHome, Stands}
-use Rattle.manager_commands.proofs.FreeGranules.{free_at}
-use Rattle.manager_commands.proofs.Reached.{total_kept}
+use Rattle.cci_codec.specs.dcd_base.specs.declared.{capacity.Extent.Extent, ids.HostId.HostId, steps.LogId.LogId}
+use Rattle.event_log.specs.{LogStates.LogState, Logs.places_in, Logs.state_of, Logs.IsLogOf}
+use Rattle.device_commands.specs.device_rules.proofs.{Holding.present_whole, Homes.made_granular, Homes.made_is_run, Homes.made_region, LegalSound.legal_is_sound}
 use Rattle.device_commands.specs.device_rules.specs.Adding.{area_of, is_free_now, per_block, present, region_free_blocks}
-use Rattle.selection.specs.granule_map.specs.Blocks.{free_block_count}
-use Rattle.extent_list.specs.media_map.specs.region_config.proofs.Faultless.{granules_within}
-use Rattle.selection.proofs.Agreeing.{free_blocks_agree}
-use Rattle.device_commands.specs.device_rules.specs.Counts.{dirty_count, extent_count, free_count, granules_held, missed_of, records_of}
-use Rattle.device_commands.specs.device_rules.specs.Hosts.{accepted_of, held_of, offers_of}
-use Rattle.device_commands.specs.device_rules.specs.Logs.{log_of}
+use Rattle.device_commands.specs.device_rules.specs.{Counts.dirty_count, Counts.extent_count, Counts.free_count, Counts.granules_held, Counts.missed_of, Counts.records_of, GranuleCells.status_of}
+use Rattle.device_commands.specs.device_rules.specs.{Hosts.accepted_of, Hosts.held_of, Hosts.offers_of, Logs.log_of, Pictures.picture_of, Standing.IsHome, Standing.Stands}
 use Rattle.device_commands.specs.device_rules.specs.Tags.{Status, all_granules, is_dirty, is_free, status}
+use Rattle.selection.{proofs.Agreeing.free_blocks_agree, proofs.Placed.run_below, specs.granule_map.specs.Blocks.free_block_count}
+use Rattle.selection.specs.granule_map.specs.{StateLists.count_of, StateLists.same_state, StateLists.is_free_at, Tables.cell_at, declared.states.GranuleState.GranuleState}
+use Rattle.manager_commands.proofs.{FreeGranules.free_at, Reached.total_kept}
+use Rattle.manager_commands.specs.device_state.specs.{StateAfter.IsReached, StateAfter.IsStateAfter, StateAfter.part_of, Updates.IsOfLog, Updates.log_in, declared.state.State.State}
+use Rattle.extent_list.specs.{HostLists.Lists, media_map.proofs.RunLemmas.granular_from, media_map.specs.Places.run_of, media_map.specs.region_config.proofs.Faultless.granules_within}
+use Rattle.extent_list.specs.media_map.specs.region_config.specs.{Configurations.Configuration, Granules.granule_total, Soundness.IsSound}
+use Rattle.journal_core.specs.{Entries.effects, declared.entries.Entry.Entry, declared.outcome.Effect.Effect, declared.outcome.HeldKind.HeldKind}
 use Rattle.control_core.specs.HeldExtents.{AreHeld, IsHeld}
-use Rattle.manager_commands.specs.device_state.specs.Updates.{IsOfLog, log_in}
-use Rattle.manager_commands.specs.device_state.specs.declared.state.State.{State}
 
 -- ---- granules
 

@@ -1,31 +1,18 @@
 -- The records of a step are those that its history asks for.
 use Rattle.std.proofs.Common.{◌≡◌, ℕ, ◌+◌, ◌-◌, ◌%◌, ◌<◌, ◌≤◌, ◌⊎◌, append-nil, true, false, List, [], ◌∷◌, ◌++◌, length, map, flat_map, append_assoc, get_or, take, drop, zero, suc, inl, inr, refl, sym, ap, ◌∙◌, subst, arith}
+use Rattle.std.proofs.{Math.Nat.mod-add-mod, lemmas.Bool.cases_eq, lemmas.Bool.ne_eqb, lemmas.Grind.flat_map-append, lemmas.List.drop_more, lemmas.List.length_push, lemmas.List.take_more}
 use Rattle.std.specs.Prelude.{◌==◌, if◌then◌else◌}
-use Rattle.std.proofs.lemmas.Bool.{cases_eq, ne_eqb}
-use Rattle.std.proofs.lemmas.Grind.{flat_map-append}
-use Rattle.std.proofs.lemmas.List.{drop_more, length_push, take_more}
-use Rattle.std.proofs.Math.Nat.{mod-add-mod}
-use Rattle.cci_codec.specs.dcd_base.specs.declared.capacity.Tag.{Tag}
-use Rattle.cci_codec.specs.dcd_base.specs.declared.ids.HostId.{HostId}
-use Rattle.cci_codec.specs.dcd_base.specs.declared.steps.LogId.{LogId}
-use Rattle.extent_list.specs.HostLists.{Lists}
+use Rattle.cci_codec.specs.dcd_base.specs.declared.{capacity.Tag.Tag, ids.HostId.HostId, steps.LogId.LogId}
+use Rattle.extent_list.specs.{HostLists.Lists, media_map.specs.region_config.specs.Configurations.Configuration}
 use Rattle.tag_refs.specs.declared.entries.TagEntry.{TagEntry}
-use Rattle.event_log.specs.LogStates.{LogState, handle_after}
-use Rattle.event_log.specs.Logs.{Log, missed_by, next_handle, recorded, room_in, IsLogOf}
-use Rattle.event_records.specs.declared.events.Event.{Event}
-use Rattle.event_records.specs.declared.events.EventKind.{EventKind}
-use Rattle.journal_core.specs.Entries.{effects}
-use Rattle.journal_core.specs.declared.entries.Entry.{Entry}
-use Rattle.journal_core.specs.declared.outcome.Effect.{Effect}
-use Rattle.extent_list.specs.media_map.specs.region_config.specs.Configurations.{Configuration}
-use Rattle.manager_commands.specs.device_state.specs.StateAfter.{IsStateAfter}
+use Rattle.event_log.specs.{LogStates.LogState, LogStates.handle_after, Logs.Log, Logs.missed_by, Logs.next_handle, Logs.recorded, Logs.room_in, Logs.IsLogOf}
+use Rattle.event_records.specs.declared.events.{Event.Event, EventKind.EventKind}
+use Rattle.journal_core.specs.{Entries.effects, declared.entries.Entry.Entry, declared.outcome.Effect.Effect}
+use Rattle.manager_commands.specs.device_state.specs.{StateAfter.IsStateAfter, Updates.IsOfLog, Updates.log_in, declared.state.State.State}
 use Rattle.device_commands.specs.declared.log_records.LogRecords.{LogRecords}
-use Rattle.device_commands.specs.device_rules.specs.Logs.{log_after, log_of}
-use Rattle.device_commands.specs.device_rules.specs.Outcomes.{entered, entered_all, no_extent}
 use Rattle.device_commands.specs.device_rules.proofs.LogSteps.{IsSound, IsSound-recorded, room-recorded, same_log-self}
+use Rattle.device_commands.specs.device_rules.specs.{Logs.log_after, Logs.log_of, Outcomes.entered, Outcomes.entered_all, Outcomes.no_extent}
 use Rattle.control_core.specs.Recording.{ending_with, records_by, records_told}
-use Rattle.manager_commands.specs.device_state.specs.Updates.{IsOfLog, log_in}
-use Rattle.manager_commands.specs.device_state.specs.declared.state.State.{State}
 
 -- the next handle goes on
 handle-recorded : (log : Log) (e : Event) → next_handle (recorded log e) ≡ handle_after (next_handle log)

@@ -2,13 +2,9 @@
 use Rattle.std.proofs.Common.{ℕ, List, ap}
 use Rattle.cci_codec.specs.dcd_base.specs.declared.steps.Actor.{Actor}
 use Rattle.extent_list.specs.media_map.specs.region_config.specs.Configurations.{Configuration}
-use Rattle.journal_core.specs.declared.acts.Act.{Act}
-use Rattle.journal_core.specs.declared.acts.Reply.{Reply}
-use Rattle.journal_core.specs.declared.outcome.Effect.{Effect}
+use Rattle.journal_core.specs.declared.{acts.Act.Act, acts.Reply.Reply, outcome.Effect.Effect}
 use Rattle.control_core.specs.Deciding.{IsDecided}
-use Rattle.manager_commands.specs.device_state.specs.declared.state.State.{State}
-use Rattle.manager_commands.specs.Scrub.{IsZeroed}
-use Rattle.manager_commands.specs.declared.scrub.Zeroed.{Zeroed}
+use Rattle.manager_commands.specs.{device_state.specs.declared.state.State.State, Scrub.IsZeroed, declared.scrub.Zeroed.Zeroed}
 
 -- A scrub comes to this.
 pub is_scrub : (c : Configuration) (s : State) (n : ℕ) (z : Zeroed) → IsZeroed c s n z →

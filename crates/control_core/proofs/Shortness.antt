@@ -1,53 +1,26 @@
 -- Every reply has a payload of at most 2,048 bytes.
 use Rattle.std.proofs.Common.{◌≡◌, ℕ, suc, mul-suc, ◌+◌, ◌*◌, ◌<◌, ◌≤◌, Bool, true, false, List, [], ◌∷◌, ◌++◌, length, map, flat_map, take, drop, get_or, append-nil, refl, sym, ap, subst, ◌∙◌, arith, leb, None}
-use Rattle.std.specs.Prelude.{◌==◌, All, if◌then◌else◌, min, nat_lt}
-use Rattle.std.specs.List.{AllByRecursion}
-use Rattle.std.specs.Int.{w16, w32, w64}
-use Rattle.std.proofs.lemmas.Bool.{leb-false}
-use Rattle.std.proofs.lemmas.Grind.{flat_map-append}
-use Rattle.std.proofs.lemmas.List.{length-append, length-drop, length-map, length-take}
-use Rattle.std.proofs.lemmas.List.Elements.{All-drop, All-from_recursion, All-take, recursion_from_All}
-use Rattle.std.proofs.lemmas.List.FromFn.{length-range_with_len}
-use Rattle.cci_codec.specs.dcd_base.specs.Layouts.{Field, Number, Raw, Reserved, flag, spell, spelling}
-use Rattle.cci_codec.specs.dcd_base.specs.declared.capacity.Extent.{Extent}
-use Rattle.cci_codec.specs.dcd_base.specs.declared.capacity.Tag.{Tag}
-use Rattle.cci_codec.specs.dcd_base.specs.declared.ids.HostId.{HostId}
-use Rattle.cci_codec.specs.dcd_base.specs.declared.steps.LogId.{LogId}
-use Rattle.cci_codec.specs.dcd_base.specs.declared.tags.TagView.{TagView}
-use Rattle.event_log.specs.LogStates.{LogState}
-use Rattle.event_log.specs.Logs.{Log, empty_log, records_in}
-use Rattle.event_records.specs.Records.{end_fields, record_head, record_fields}
-use Rattle.event_records.specs.declared.events.Event.{Event}
+use Rattle.std.proofs.lemmas.{Bool.leb-false, Grind.flat_map-append, List.length-append, List.length-drop, List.length-map, List.length-take}
+use Rattle.std.proofs.lemmas.List.{Elements.All-drop, Elements.All-from_recursion, Elements.All-take, Elements.recursion_from_All, FromFn.length-range_with_len}
+use Rattle.std.specs.{Int.w16, Int.w32, Int.w64, List.AllByRecursion, Prelude.◌==◌, Prelude.All, Prelude.if◌then◌else◌, Prelude.min, Prelude.nat_lt}
+use Rattle.cci_codec.specs.dcd_base.specs.{Extents.extent_bytes, Extents.extent_fields, Layouts.Field, Layouts.Number, Layouts.Raw, Layouts.Reserved, Layouts.flag, Layouts.spell, Layouts.spelling}
+use Rattle.cci_codec.specs.dcd_base.specs.declared.{capacity.Extent.Extent, capacity.Tag.Tag, ids.HostId.HostId, steps.LogId.LogId, tags.TagView.TagView}
+use Rattle.event_log.specs.{LogStates.LogState, Logs.Log, Logs.empty_log, Logs.records_in}
+use Rattle.event_records.specs.{Records.end_fields, Records.record_head, Records.record_fields, declared.events.Event.Event}
 use Rattle.fm_payloads.specs.ManagerPayloads.{info_fields, info_head_fields, info_payload, lists_head, regions_head, tag_fields, tags_fields, tags_head_fields, tags_payload}
 use Rattle.fm_payloads.specs.declared.requests.FmRequest.{FmRequest}
-use Rattle.extent_list.specs.dcd_codes.specs.Rules.{◌breaks◌}
-use Rattle.extent_list.specs.dcd_codes.specs.declared.rules.Rule.{Rule}
-use Rattle.device_commands.specs.device_rules.proofs.LogOutcomes.{whole as broken_not}
-use Rattle.extent_list.specs.media_map.specs.region_config.proofs.Searches.{or_parts}
-use Rattle.extent_list.specs.media_map.specs.region_config.specs.declared.region_spec.RegionSpec.{RegionSpec}
-use Rattle.journal_core.specs.declared.outcome.Effect.{Effect}
-use Rattle.tag_refs.specs.declared.entries.TagEntry.{TagEntry}
-use Rattle.extent_list.specs.HostLists.{Lists}
-use Rattle.host_payloads.specs.HostPayloads.{configuration_fields, configuration_head_fields, configuration_payload, counts_bytes, counts_fields, events_fields, events_head_fields, events_payload, extents_payload, page_fields, region_bytes, view_fields}
-use Rattle.cci_codec.specs.dcd_base.specs.Extents.{extent_bytes, extent_fields}
-use Rattle.host_payloads.specs.declared.requests.HostRequest.{HostRequest}
-use Rattle.host_payloads.specs.declared.views.Counts.{Counts}
-use Rattle.host_payloads.specs.declared.views.RegionView.{RegionView}
-use Rattle.journal_core.specs.Entries.{effects}
-use Rattle.journal_core.specs.declared.entries.Entry.{Entry}
-use Rattle.extent_list.specs.media_map.specs.region_config.specs.Configurations.{Configuration}
-use Rattle.extent_list.specs.media_map.specs.region_config.specs.Granules.{regions_of}
-use Rattle.device_commands.specs.device_rules.specs.Answers.{host_outcome, manager_outcome, manager_rule}
-use Rattle.device_commands.specs.device_rules.specs.EventCommands.{events_reply, log_named}
+use Rattle.extent_list.specs.{HostLists.Lists, dcd_codes.specs.Rules.◌breaks◌, dcd_codes.specs.declared.rules.Rule.Rule, media_map.specs.region_config.proofs.Searches.or_parts}
+use Rattle.extent_list.specs.media_map.specs.region_config.specs.{Configurations.Configuration, Granules.regions_of, declared.region_spec.RegionSpec.RegionSpec}
+use Rattle.device_commands.specs.device_rules.{proofs.LogOutcomes.whole as broken_not, specs.Answers.host_outcome, specs.Answers.manager_outcome, specs.Answers.manager_rule}
+use Rattle.device_commands.specs.device_rules.specs.{EventCommands.events_reply, EventCommands.log_named, Logs.log_of}
 use Rattle.device_commands.specs.device_rules.specs.Settings.{host_counts, host_flags, lists_reply, manager_flags, page, past_end, region_seen, regions_reply}
-use Rattle.device_commands.specs.device_rules.specs.Logs.{log_of}
-use Rattle.device_commands.specs.device_rules.specs.TagCommands.{tag_seen}
-use Rattle.device_commands.specs.device_rules.specs.Tags.{open_tags}
-use Rattle.device_commands.specs.device_rules.specs.Views.{View, generation_in, view_of}
+use Rattle.device_commands.specs.device_rules.specs.{TagCommands.tag_seen, Tags.open_tags, Views.View, Views.generation_in, Views.view_of}
+use Rattle.journal_core.specs.{declared.outcome.Effect.Effect, Entries.effects, declared.entries.Entry.Entry}
+use Rattle.tag_refs.specs.declared.entries.TagEntry.{TagEntry}
+use Rattle.host_payloads.specs.HostPayloads.{configuration_fields, configuration_head_fields, configuration_payload, counts_bytes, counts_fields, events_fields, events_head_fields, events_payload, extents_payload, page_fields, region_bytes, view_fields}
+use Rattle.host_payloads.specs.declared.{requests.HostRequest.HostRequest, views.Counts.Counts, views.RegionView.RegionView}
 use Rattle.control_core.specs.Fitting.{PartFits, RequestFits, TagFits}
-use Rattle.manager_commands.specs.device_state.specs.StateAfter.{IsStateAfter, IsPart}
-use Rattle.manager_commands.specs.device_state.specs.declared.parts.HostPart.{HostPart}
-use Rattle.manager_commands.specs.device_state.specs.declared.state.State.{State}
+use Rattle.manager_commands.specs.device_state.specs.{StateAfter.IsStateAfter, StateAfter.IsPart, declared.parts.HostPart.HostPart, declared.state.State.State}
 
 -- ---- lengths of layouts
 

@@ -1,18 +1,12 @@
 -- The changes of a step name some granules each, all of one region, and hosts of the device alone.
 use Rattle.std.proofs.Common.{◌≡◌, ℕ, ◌+◌, ◌-◌, ◌<◌, ◌≤◌, false, List, [], ◌∷◌, ◌++◌, get_or, sym, subst, ◌∙◌, arith}
-use Rattle.std.specs.Prelude.{All}
-use Rattle.std.proofs.lemmas.List.Elements.{All-push}
-use Rattle.cci_codec.specs.dcd_base.specs.declared.ids.HostId.{HostId}
-use Rattle.cci_codec.specs.dcd_base.specs.declared.media.Change.{Change}
-use Rattle.cci_codec.specs.dcd_base.specs.declared.media.Run.{Run}
+use Rattle.std.{specs.Prelude.All, proofs.lemmas.List.Elements.All-push}
+use Rattle.cci_codec.specs.dcd_base.specs.{declared.ids.HostId.HostId, declared.media.Change.Change, declared.media.Run.Run, Hosts.has_host}
 use Rattle.manager_commands.specs.device_state.specs.Updates.{IsOfDevice}
 use Rattle.journal_core.specs.declared.outcome.Effect.{Effect}
-use Rattle.extent_list.specs.media_map.specs.region_config.specs.Configurations.{Configuration}
-use Rattle.extent_list.specs.media_map.specs.region_config.specs.Granules.{granule_total}
-use Rattle.cci_codec.specs.dcd_base.specs.Hosts.{has_host}
+use Rattle.extent_list.specs.media_map.specs.region_config.specs.{Configurations.Configuration, Granules.granule_total}
 use Rattle.device_commands.specs.device_rules.specs.ChangedRuns.{IsWithinRegion, IsSoundChange}
-use Rattle.control_core.specs.PutChanges.{NameNoOthers, bits_by, is_zero}
-use Rattle.control_core.proofs.ChangedHolders.{with_other, without_other}
+use Rattle.control_core.{specs.PutChanges.NameNoOthers, specs.PutChanges.bits_by, specs.PutChanges.is_zero, proofs.ChangedHolders.with_other, proofs.ChangedHolders.without_other}
 
 -- an effect of the device gives nothing to a host that the device has not
 no_others_by : (c : Configuration) (e : Effect) → IsOfDevice c e → (bits : ℕ) (h : HostId) → c.hosts ≤ h → has_host bits h ≡ false → has_host (bits_by e bits) h ≡ false

@@ -1,14 +1,9 @@
 -- The stamps of a control's entries rise as it takes steps.
 use Rattle.std.proofs.Common.{◌≡◌, ◌≤◌, ℕ, ◌+◌, ◌&&◌, ◌==◌, ltb, List, [], ◌∷◌, ◌++◌, length, get_or, subst, sym, ap, arith}
+use Rattle.std.proofs.lemmas.{Bool.and_left, Bool.le-ltb, Bool.ne_eqb, Bool.or_from, List.length_push, List.Elements.All-push}
 use Rattle.std.specs.Prelude.{IsFalse}
-use Rattle.std.proofs.lemmas.Bool.{and_left, le-ltb, ne_eqb, or_from}
-use Rattle.std.proofs.lemmas.List.{length_push}
-use Rattle.std.proofs.lemmas.List.Elements.{All-push}
 use Rattle.cci_codec.specs.dcd_base.specs.declared.steps.Stamp.{Stamp}
-use Rattle.journal_core.specs.declared.entries.Entry.{Entry}
-use Rattle.journal_core.specs.Entries.{next_stamp}
-use Rattle.journal_core.specs.Merging.{is_later}
-use Rattle.journal_core.proofs.JournalSteps.{Rising-push}
+use Rattle.journal_core.{specs.declared.entries.Entry.Entry, specs.Entries.next_stamp, specs.Merging.is_later, proofs.JournalSteps.Rising-push}
 use Rattle.control_core.specs.Deciding.{AreStamped}
 
 -- a stamp of such a number is not later than the next one

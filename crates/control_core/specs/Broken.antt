@@ -1,9 +1,6 @@
 -- The rule of a row, by what a command is drafted as.
-use Rattle.std.specs.Prelude.{◌≡◌, Option, Some, None}
-use Rattle.std.specs.declared.result.Result.{Result}
-use Rattle.std.specs.declared.result.Result.TheVariants.{Ok, Err}
-use Rattle.extent_list.specs.dcd_codes.specs.declared.refusals.Refusal.{Refusal}
-use Rattle.extent_list.specs.dcd_codes.specs.declared.rules.Rule.{Rule}
+use Rattle.std.specs.{Prelude.◌≡◌, Prelude.Option, Prelude.Some, Prelude.None, declared.result.Result.Result, declared.result.Result.TheVariants.Ok, declared.result.Result.TheVariants.Err}
+use Rattle.extent_list.specs.dcd_codes.specs.declared.{refusals.Refusal.Refusal, rules.Rule.Rule}
 use Rattle.device_commands.specs.declared.draft.Draft.{Draft}
 
 -- The first broken rule of the row is the one that it was refused for, and it was drafted where there is none.

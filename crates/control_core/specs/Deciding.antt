@@ -1,17 +1,11 @@
 -- What a step comes to.
 use Rattle.std.specs.Prelude.{◌≡◌, ◌≤◌, All, List, length}
 use Rattle.cci_codec.specs.dcd_base.specs.declared.steps.Actor.{Actor}
-use Rattle.extent_list.specs.media_map.specs.region_config.specs.Configurations.{Configuration}
-use Rattle.extent_list.specs.media_map.specs.region_config.specs.Soundness.{IsSound}
-use Rattle.journal_core.specs.declared.acts.Act.{Act}
-use Rattle.journal_core.specs.declared.acts.Reply.{Reply}
-use Rattle.journal_core.specs.declared.entries.Entry.{Entry}
-use Rattle.journal_core.specs.Merging.{Rising}
-use Rattle.device_commands.specs.device_rules.specs.Answers.{answer}
-use Rattle.device_commands.specs.device_rules.specs.Legal.{Legal}
-use Rattle.manager_commands.specs.device_state.specs.StateAfter.{IsStateAfter}
+use Rattle.extent_list.specs.media_map.specs.region_config.specs.{Configurations.Configuration, Soundness.IsSound}
+use Rattle.journal_core.specs.{declared.acts.Act.Act, declared.acts.Reply.Reply, declared.entries.Entry.Entry, Merging.Rising}
+use Rattle.device_commands.specs.device_rules.specs.{Answers.answer, Legal.Legal}
+use Rattle.manager_commands.specs.device_state.specs.{StateAfter.IsStateAfter, declared.state.State.State}
 use Rattle.control_core.specs.declared.decided.Decided.{Decided}
-use Rattle.manager_commands.specs.device_state.specs.declared.state.State.{State}
 
 -- The payload of a response has at most 2,048 bytes: as much as the longest page, with some to spare.
 abbrev pub IsShort : Reply → Type 0

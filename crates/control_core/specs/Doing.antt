@@ -1,31 +1,16 @@
 -- What a command comes to that breaks no rule, and how its message is read.
-use Rattle.std.specs.Prelude.{◌≡◌, ◌<◌, List, ◌++◌}
-use Rattle.std.specs.declared.result.Result.{Result}
-use Rattle.std.specs.declared.result.Result.TheVariants.{Err}
-use Rattle.cci_codec.specs.declared.messages.Request.{Request}
-use Rattle.cci_codec.specs.dcd_base.specs.declared.ids.HostId.{HostId}
-use Rattle.extent_list.specs.dcd_codes.specs.declared.codes.Code.{Code}
-use Rattle.cci_codec.specs.dcd_base.specs.declared.steps.Actor.{Actor}
-use Rattle.extent_list.specs.dcd_codes.specs.declared.refusals.Refusal.{Refusal}
-use Rattle.extent_list.specs.dcd_codes.specs.declared.rules.Rule.{Rule}
-use Rattle.journal_core.specs.declared.acts.Act.{Act}
-use Rattle.control_core.specs.Deciding.{IsDecidedBy}
+use Rattle.std.specs.{Prelude.◌≡◌, Prelude.◌<◌, Prelude.List, Prelude.◌++◌, declared.result.Result.Result, declared.result.Result.TheVariants.Err}
+use Rattle.cci_codec.specs.{declared.messages.Request.Request, dcd_base.specs.declared.ids.HostId.HostId, dcd_base.specs.declared.steps.Actor.Actor}
+use Rattle.extent_list.specs.dcd_codes.specs.declared.{codes.Code.Code, refusals.Refusal.Refusal, rules.Rule.Rule}
 use Rattle.extent_list.specs.media_map.specs.region_config.specs.Configurations.{Configuration}
-use Rattle.journal_core.specs.Entries.{effects}
-use Rattle.journal_core.specs.declared.entries.Entry.{Entry}
+use Rattle.journal_core.specs.{declared.acts.Act.Act, Entries.effects, declared.entries.Entry.Entry}
+use Rattle.control_core.specs.{Deciding.IsDecidedBy, declared.decided.Decided.Decided}
 use Rattle.host_commands.specs.HostMessages.{IsDrafted}
-use Rattle.device_commands.specs.Drafts.{Drafts}
-use Rattle.manager_commands.specs.device_state.specs.StateAfter.{IsStateAfter}
-use Rattle.device_commands.specs.declared.draft.Draft.{Draft}
-use Rattle.device_commands.specs.device_rules.specs.Answers.{host_result_in, response}
-use Rattle.device_commands.specs.device_rules.specs.Hosts.{accepted_of, offers_of}
-use Rattle.device_commands.specs.device_rules.specs.Legal.{Legal}
-use Rattle.device_commands.specs.device_rules.specs.Outcomes.{Outcome, effects_of, ended}
-use Rattle.device_commands.specs.device_rules.specs.Views.{view_of}
-use Rattle.device_commands.specs.device_rules.specs.TagTable.{IsTable, among, among_offers, ending}
+use Rattle.device_commands.specs.{Drafts.Drafts, declared.draft.Draft.Draft, device_rules.specs.Answers.host_result_in, device_rules.specs.Answers.response}
+use Rattle.device_commands.specs.device_rules.specs.{Hosts.accepted_of, Hosts.offers_of, Legal.Legal, Outcomes.Outcome, Outcomes.effects_of, Outcomes.ended}
+use Rattle.device_commands.specs.device_rules.specs.{TagTable.IsTable, TagTable.among, TagTable.among_offers, TagTable.ending, Views.view_of}
+use Rattle.manager_commands.specs.device_state.specs.{StateAfter.IsStateAfter, declared.state.State.State}
 use Rattle.tag_refs.specs.declared.entries.TagEntry.{TagEntry}
-use Rattle.control_core.specs.declared.decided.Decided.{Decided}
-use Rattle.manager_commands.specs.device_state.specs.declared.state.State.{State}
 
 -- It answers the outcome, and has its effects.
 pub record IsDone (c : Configuration) (before : List Entry) (q : Request) (o : Outcome) (d : Decided) : Type 0 where

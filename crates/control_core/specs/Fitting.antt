@@ -1,14 +1,10 @@
 -- Tags that have sixteen bytes, as all have that the device keeps.
 use Rattle.std.specs.Prelude.{◌≡◌, ◌<◌, All, length}
-use Rattle.cci_codec.specs.dcd_base.specs.declared.capacity.Extent.{Extent}
-use Rattle.cci_codec.specs.dcd_base.specs.declared.capacity.Tag.{Tag}
-use Rattle.cci_codec.specs.dcd_base.specs.declared.ids.HostId.{HostId}
+use Rattle.cci_codec.specs.dcd_base.specs.declared.{capacity.Extent.Extent, capacity.Tag.Tag, ids.HostId.HostId}
 use Rattle.event_records.specs.declared.events.Event.{Event}
 use Rattle.fm_payloads.specs.declared.requests.FmRequest.{FmRequest}
 use Rattle.tag_refs.specs.declared.entries.TagEntry.{TagEntry}
-use Rattle.manager_commands.specs.device_state.specs.StateAfter.{part_of}
-use Rattle.manager_commands.specs.device_state.specs.declared.parts.HostPart.{HostPart}
-use Rattle.manager_commands.specs.device_state.specs.declared.state.State.{State}
+use Rattle.manager_commands.specs.device_state.specs.{StateAfter.part_of, declared.parts.HostPart.HostPart, declared.state.State.State}
 
 -- The tag has sixteen bytes.
 abbrev pub TagFits : Tag → Type 0

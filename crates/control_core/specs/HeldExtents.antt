@@ -1,9 +1,7 @@
 -- The extents that a host of the device has accepted.
 use Rattle.std.specs.Prelude.{ℕ, ◌<◌, ◌≤◌, IsTrue, List, length, slice_index_or}
-use Rattle.cci_codec.specs.dcd_base.specs.declared.capacity.Extent.{Extent}
-use Rattle.cci_codec.specs.dcd_base.specs.declared.ids.HostId.{HostId}
-use Rattle.extent_list.specs.media_map.specs.region_config.specs.Configurations.{Configuration}
-use Rattle.extent_list.specs.media_map.specs.Places.{is_granular, run_of}
+use Rattle.cci_codec.specs.dcd_base.specs.declared.{capacity.Extent.Extent, ids.HostId.HostId}
+use Rattle.extent_list.specs.media_map.specs.{region_config.specs.Configurations.Configuration, Places.is_granular, Places.run_of}
 
 -- An extent is made of granules of one region: the device has 4096 at most.
 pub record IsHeld (c : Configuration) (h : HostId) (x : Extent) : Type 0 where

@@ -1,30 +1,15 @@
 -- What a message of the Fabric Manager comes to.
 use Rattle.std.specs.Prelude.{◌≡◌, ℕ, false, not, List, [], ◌∷◌, None, Option, Some, if◌then◌else◌}
-use Rattle.std.specs.declared.result.Result.{Result}
-use Rattle.std.specs.declared.result.Result.TheVariants.{Ok, Err}
-use Rattle.cci_codec.specs.declared.messages.Request.{Request}
-use Rattle.cci_codec.specs.dcd_base.specs.declared.capacity.Tag.{Tag}
-use Rattle.cci_codec.specs.dcd_base.specs.declared.steps.Actor.{Actor}
-use Rattle.extent_list.specs.dcd_codes.specs.declared.refusals.Refusal.{Refusal}
-use Rattle.fm_payloads.specs.ManagerPayloads.{manager_request}
-use Rattle.fm_payloads.specs.declared.requests.FmRequest.{FmRequest}
-use Rattle.extent_list.specs.media_map.specs.region_config.specs.Configurations.{Configuration}
-use Rattle.journal_core.specs.Entries.{effects}
-use Rattle.journal_core.specs.declared.acts.Act.{Act}
-use Rattle.journal_core.specs.declared.entries.Entry.{Entry}
-use Rattle.device_commands.specs.Drafts.{Informs}
-use Rattle.device_commands.specs.declared.draft.Draft.{Draft}
-use Rattle.device_commands.specs.device_rules.specs.Answers.{manager_result}
-use Rattle.device_commands.specs.device_rules.specs.Legal.{Legal}
-use Rattle.device_commands.specs.device_rules.specs.Outcomes.{Outcome, ended}
-use Rattle.device_commands.specs.device_rules.specs.Views.{view_of}
-use Rattle.tag_refs.specs.Tables.{is_used, passes, with_reference}
-use Rattle.tag_refs.specs.declared.entries.TagEntry.{TagEntry}
-use Rattle.control_core.specs.Deciding.{IsDecided}
-use Rattle.control_core.specs.Doing.{IsDone}
-use Rattle.manager_commands.specs.device_state.specs.StateAfter.{IsStateAfter}
-use Rattle.control_core.specs.declared.decided.Decided.{Decided}
-use Rattle.manager_commands.specs.device_state.specs.declared.state.State.{State}
+use Rattle.std.specs.declared.result.Result.{Result, TheVariants.Ok, TheVariants.Err}
+use Rattle.cci_codec.specs.{declared.messages.Request.Request, dcd_base.specs.declared.capacity.Tag.Tag, dcd_base.specs.declared.steps.Actor.Actor}
+use Rattle.extent_list.specs.{dcd_codes.specs.declared.refusals.Refusal.Refusal, media_map.specs.region_config.specs.Configurations.Configuration}
+use Rattle.fm_payloads.specs.{ManagerPayloads.manager_request, declared.requests.FmRequest.FmRequest}
+use Rattle.journal_core.specs.{Entries.effects, declared.acts.Act.Act, declared.entries.Entry.Entry}
+use Rattle.device_commands.specs.{Drafts.Informs, declared.draft.Draft.Draft, device_rules.specs.Answers.manager_result, device_rules.specs.Legal.Legal}
+use Rattle.device_commands.specs.device_rules.specs.{Outcomes.Outcome, Outcomes.ended, Views.view_of}
+use Rattle.tag_refs.specs.{Tables.is_used, Tables.passes, Tables.with_reference, declared.entries.TagEntry.TagEntry}
+use Rattle.control_core.specs.{Deciding.IsDecided, Doing.IsDone, declared.decided.Decided.Decided}
+use Rattle.manager_commands.specs.device_state.specs.{StateAfter.IsStateAfter, declared.state.State.State}
 
 -- The message comes to this, or breaks this rule first.
 abbrev pub Manages : Configuration → State → Request → Result Decided Refusal → Type 0

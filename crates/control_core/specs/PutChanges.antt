@@ -1,20 +1,12 @@
 -- Changes put one after another, from the holders before the step.
 use Rattle.std.specs.Prelude.{◌+◌, ◌≡◌, ℕ, ◌<◌, ◌≤◌, Bool, true, false, ◌&&◌, ◌||◌, ◌==◌, nat_le, nat_lt, List, [], ◌∷◌, ◌++◌, fold, Option, Some, None, slice_index_or, if◌then◌else◌, ◌-◌, All}
 use Rattle.std.specs.List.{list_all, list_any}
-use Rattle.cci_codec.specs.dcd_base.specs.Words.{has_granule}
-use Rattle.cci_codec.specs.dcd_base.specs.declared.ids.HostId.{HostId}
-use Rattle.cci_codec.specs.dcd_base.specs.declared.media.Change.{Change}
-use Rattle.cci_codec.specs.dcd_base.specs.declared.media.Run.{Run}
-use Rattle.journal_core.specs.declared.outcome.Effect.{Effect}
-use Rattle.device_commands.specs.device_rules.specs.Legal.{is_zeroing}
-use Rattle.extent_list.specs.media_map.specs.region_config.specs.Configurations.{Configuration}
-use Rattle.extent_list.specs.media_map.specs.region_config.specs.Granules.{granule_total}
-use Rattle.cci_codec.specs.dcd_base.specs.Hosts.{has_host, with_host, without_host}
+use Rattle.cci_codec.specs.dcd_base.specs.{Words.has_granule, declared.ids.HostId.HostId, declared.media.Change.Change, declared.media.Run.Run, Hosts.has_host, Hosts.with_host, Hosts.without_host}
+use Rattle.journal_core.specs.{declared.outcome.Effect.Effect, Entries.effects as effects_of, declared.entries.Entry.Entry}
 use Rattle.device_commands.specs.device_rules.specs.ChangedRuns.{IsWithinRegion, holders_after, touches, AreChanges, IsSoundChange, LiesIn}
-use Rattle.journal_core.specs.Entries.{effects as effects_of}
-use Rattle.journal_core.specs.declared.entries.Entry.{Entry}
-use Rattle.manager_commands.specs.device_state.specs.StateAfter.{IsStateAfter}
-use Rattle.manager_commands.specs.device_state.specs.declared.state.State.{State}
+use Rattle.device_commands.specs.device_rules.specs.Legal.{is_zeroing}
+use Rattle.extent_list.specs.media_map.specs.region_config.specs.{Configurations.Configuration, Granules.granule_total}
+use Rattle.manager_commands.specs.device_state.specs.{StateAfter.IsStateAfter, declared.state.State.State}
 
 -- the granules that the effect gives, takes or zeroes
 abbrev pub touched_by : Effect → Option Run

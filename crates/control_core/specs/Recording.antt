@@ -1,29 +1,15 @@
 -- The records of a step, by the logs that are kept.
 use Rattle.std.specs.Prelude.{ℕ, ◌-◌, ◌==◌, List, [], ◌∷◌, flat_map, fold, if◌then◌else◌, ◌≡◌, ◌++◌, Bool, map, not}
-use Rattle.cci_codec.specs.dcd_base.specs.declared.steps.LogId.{LogId}
+use Rattle.cci_codec.specs.dcd_base.specs.declared.{steps.LogId.LogId, capacity.Tag.Tag, ids.HostId.HostId}
 use Rattle.event_log.specs.LogStates.{handle_after}
 use Rattle.event_records.specs.declared.events.Event.{Event}
-use Rattle.device_commands.specs.declared.log_records.LogRecords.{LogRecords}
-use Rattle.journal_core.specs.declared.outcome.Effect.{Effect}
-use Rattle.device_commands.specs.device_rules.specs.Logs.{log_of}
-use Rattle.device_commands.specs.device_rules.specs.Outcomes.{entered_all}
+use Rattle.device_commands.specs.{Drafts.HasExtentsOf, Drafts.told_by, declared.draft.Draft.Draft, declared.log_records.LogRecords.LogRecords, device_rules.specs.Logs.log_of}
+use Rattle.device_commands.specs.device_rules.specs.{Outcomes.entered_all, TagTable.ending, Views.View, Views.view_after, Views.view_of}
+use Rattle.journal_core.specs.{declared.outcome.Effect.Effect, Entries.effects, declared.entries.Entry.Entry}
 use Rattle.std.specs.List.{list_any}
-use Rattle.cci_codec.specs.dcd_base.specs.declared.capacity.Tag.{Tag}
-use Rattle.cci_codec.specs.dcd_base.specs.declared.ids.HostId.{HostId}
-use Rattle.extent_list.specs.ExtentLists.{has_extent_of}
-use Rattle.extent_list.specs.HostLists.{Lists}
-use Rattle.journal_core.specs.Entries.{effects}
-use Rattle.journal_core.specs.declared.entries.Entry.{Entry}
-use Rattle.extent_list.specs.media_map.specs.region_config.specs.Configurations.{Configuration}
-use Rattle.device_commands.specs.device_rules.specs.TagTable.{ending}
-use Rattle.tag_refs.specs.Tables.{is_used, passes, set_by}
-use Rattle.tag_refs.specs.declared.entries.TagEntry.{TagEntry}
-use Rattle.manager_commands.specs.device_state.specs.StateAfter.{IsStateAfter}
-use Rattle.manager_commands.specs.device_state.specs.EnteredLists.{lists_by, lists_of}
-use Rattle.device_commands.specs.Drafts.{HasExtentsOf, told_by}
-use Rattle.device_commands.specs.declared.draft.Draft.{Draft}
-use Rattle.device_commands.specs.device_rules.specs.Views.{View, view_after, view_of}
-use Rattle.manager_commands.specs.device_state.specs.declared.state.State.{State}
+use Rattle.extent_list.specs.{ExtentLists.has_extent_of, HostLists.Lists, media_map.specs.region_config.specs.Configurations.Configuration}
+use Rattle.tag_refs.specs.{Tables.is_used, Tables.passes, Tables.set_by, declared.entries.TagEntry.TagEntry}
+use Rattle.manager_commands.specs.device_state.specs.{StateAfter.IsStateAfter, EnteredLists.lists_by, EnteredLists.lists_of, declared.state.State.State}
 
 -- one record, by the next handle and the room of its log, and the next handle after it
 abbrev pub record_by : LogId → ℕ → ℕ → Event → Effect

@@ -1,9 +1,9 @@
 -- Bytes that agree with a layout: put together, taken apart, and spelled.
 use Rattle.std.proofs.Common.{◌≡◌, ℕ, ◌+◌, ◌≤◌, List, [], ◌∷◌, ◌++◌, length, take, drop, refl, sym, subst, arith}
-use Rattle.std.specs.List.{AllByRecursion}
 use Rattle.std.proofs.lemmas.List.{length-take, length-append, take-append-le, drop-append-le, take-take, drop-drop, drop-take}
-use Rattle.dcd_base.specs.Layouts.{Field, FitsField, ReadsField, ReadsFields, spell, spelling}
+use Rattle.std.specs.List.{AllByRecursion}
 use Rattle.dcd_base.proofs.Fields.{length_of_field, fields_spelled}
+use Rattle.dcd_base.specs.Layouts.{Field, FitsField, ReadsField, ReadsFields, spell, spelling}
 
 -- The values have spellings, and the bytes agree with them.
 pub record Agrees (bytes : List ℕ) (fields : List Field) : Type 0 where

@@ -1,18 +1,11 @@
 -- The payloads of the event commands, read and written.
 use Rattle.std.proofs.Common.{◌≡◌, ℕ, ◌+◌, ◌*◌, ◌<◌, ◌≤◌, Bool, List, [], ◌∷◌, ◌++◌, length, get_or, map, flat_map, drop, refl, sym, ap, subst, ◌∙◌, arith}
+use Rattle.std.{proofs.lemmas.List.length-drop, proofs.lemmas.List.length-map, proofs.lemmas.List.Concat.flat_map_single, specs.Int.w8, specs.Int.w16, specs.Int.from_le_bytes}
 use Rattle.std.specs.List.{AllByRecursion}
-use Rattle.std.specs.Int.{w8, w16, from_le_bytes}
-use Rattle.std.proofs.lemmas.List.{length-drop, length-map}
-use Rattle.std.proofs.lemmas.List.Concat.{flat_map_single}
-use Rattle.dcd_base.specs.Words.{flag_of}
-use Rattle.dcd_base.specs.EventCommands.{clear_fields, clear_length, handle_fields, handles_in, FitsHandle}
-use Rattle.dcd_base.specs.Layouts.{FitsField, Number, Reserved, pieces, spelling, u16_bytes, u8_bytes}
-use Rattle.dcd_base.specs.Payloads.{has_flag}
-use Rattle.dcd_base.proofs.Fields.{IsBytes}
-use Rattle.dcd_base.proofs.Agreement.{Agrees}
-use Rattle.dcd_base.proofs.PayloadLengths.{counted_at, counted_is}
+use Rattle.dcd_base.proofs.{Agreement.Agrees, Fields.IsBytes, PayloadLengths.counted_at, PayloadLengths.counted_is, Pieces.each_is_good, Pieces.length-pieces, Pieces.pieces_found, Pieces.pieces_only}
 use Rattle.dcd_base.proofs.Widths.{IsBytes-drop, wide_16}
-use Rattle.dcd_base.proofs.Pieces.{each_is_good, length-pieces, pieces_found, pieces_only}
+use Rattle.dcd_base.specs.EventCommands.{clear_fields, clear_length, handle_fields, handles_in, FitsHandle}
+use Rattle.dcd_base.specs.{Layouts.FitsField, Layouts.Number, Layouts.Reserved, Layouts.pieces, Layouts.spelling, Layouts.u16_bytes, Layouts.u8_bytes, Payloads.has_flag, Words.flag_of}
 use Rattle.dcd_base.proofs.Places.{FieldsAt, all_from, byte_found, byte_only, end_found, end_only, flag_fits, flag_found, flag_only, number_found, number_only, reserved_found, reserved_only}
 
 -- ---- handles

@@ -1,11 +1,7 @@
 -- Fields of a layout, and bytes that read as them.
 use Rattle.std.proofs.Common.{◌≡◌, ℕ, zero, suc, ◌<◌, true, List, [], ◌∷◌, length, get_or, take, drop, refl, sym, ap, ◌∙◌, arith, replicate, take_at, drop_at, length-append, take-append-drop}
-use Rattle.std.specs.List.{list_all, AllByRecursion}
-use Rattle.std.specs.Int.{byte_at, byte_len, bytes_low_first}
-use Rattle.std.proofs.lemmas.Bool.{lt-ltb}
-use Rattle.std.proofs.lemmas.Nat.{and_le_r}
-use Rattle.std.proofs.lemmas.List.{length-replicate}
-use Rattle.std.proofs.lemmas.List.Folds.{list_all-append}
+use Rattle.std.proofs.lemmas.{Bool.lt-ltb, List.length-replicate, List.Folds.list_all-append, Nat.and_le_r}
+use Rattle.std.specs.{Int.byte_at, Int.byte_len, Int.bytes_low_first, List.list_all, List.AllByRecursion}
 use Rattle.dcd_base.specs.Layouts.{Field, Number, Masked, Raw, Reserved, Fixed, spell, spelling, is_byte, FitsField, ReadsField, ReadsFields, Reads}
 
 abbrev pub IsBytes : List ℕ → Type 0

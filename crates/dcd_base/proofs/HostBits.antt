@@ -1,11 +1,7 @@
 -- One bit of a set of hosts.
 use Rattle.std.proofs.Common.{ℕ, ◌≡◌, ◌==◌, ◌+◌, ◌-◌, ◌*◌, ◌%◌, ◌^◌, ◌<◌, Bool, true, false, bit_and, bit_or, ◌⊎◌, inl, inr, refl, sym, ◌∙◌, arith, true≢false}
-use Rattle.std.specs.Int.{bit_at}
-use Rattle.std.specs.Int.Bits.{or_add_and}
-use Rattle.std.proofs.Math.Pow.{pow-lt}
-use Rattle.std.proofs.lemmas.Bool.{eqb-true, eq-eqb}
-use Rattle.std.proofs.lemmas.Nat.{one_shl, and-not, and_comm}
-use Rattle.std.proofs.lemmas.Nat.Bits.{and_pow, bit_at-lt}
+use Rattle.std.proofs.{Math.Pow.pow-lt, lemmas.Bool.eqb-true, lemmas.Bool.eq-eqb, lemmas.Nat.one_shl, lemmas.Nat.and-not, lemmas.Nat.and_comm, lemmas.Nat.Bits.and_pow, lemmas.Nat.Bits.bit_at-lt}
+use Rattle.std.specs.Int.{bit_at, Bits.or_add_and}
 use Rattle.dcd_base.specs.Hosts.{has_host, with_host, without_host}
 
 bit_is : (hosts h : ℕ) → ((bit_at hosts h ≡ 1) × (has_host hosts h ≡ true)) ⊎ ((bit_at hosts h ≡ 0) × (has_host hosts h ≡ false))

@@ -1,8 +1,7 @@
 -- Payloads of the length that they need.
 use Rattle.std.proofs.Common.{◌≡◌, ℕ, ◌+◌, ◌*◌, true, false, cond, eqb, ltb, List, length, Ok, Err, refl, arith, eq-eqb}
 use Rattle.std.proofs.lemmas.Bool.{eqb-true, ltb-true}
-use Rattle.dcd_base.specs.declared.faults.PayloadFault.{PayloadFault}
-use Rattle.dcd_base.specs.Payloads.{sized, counted}
+use Rattle.dcd_base.specs.{declared.faults.PayloadFault.PayloadFault, Payloads.sized, Payloads.counted}
 
 pub sized_is : {X : Type 0} (need : ℕ) (payload : List ℕ) (x y : X) → sized need payload x ≡ Ok y → (length payload ≡ need) × (x ≡ y)
 sized_is need payload x y e =

@@ -1,12 +1,9 @@
 -- Lists of members of one size, read piece by piece and written one after another.
 use Rattle.std.proofs.Common.{◌≡◌, ℕ, zero, suc, ◌+◌, ◌-◌, ◌*◌, ◌<◌, List, [], ◌∷◌, ◌++◌, length, map, flat_map, take, drop, refl, sym, ap, subst, ◌∙◌, append_assoc, arith}
+use Rattle.std.proofs.lemmas.List.{length-take, length-drop, take-append-drop, nil_from_length, Concat.flat_map-append}
 use Rattle.std.specs.List.{AllByRecursion}
-use Rattle.std.proofs.lemmas.List.{length-take, length-drop, take-append-drop, nil_from_length}
-use Rattle.std.proofs.lemmas.List.Concat.{flat_map-append}
+use Rattle.dcd_base.proofs.{Agreement.Agrees, Agreement.Agrees-append, Agreement.Agrees-split, Fields.IsBytes, Fields.length_of_fields, Widths.IsBytes-take, Widths.IsBytes-drop}
 use Rattle.dcd_base.specs.Layouts.{Field, pieces, spell, spelling}
-use Rattle.dcd_base.proofs.Fields.{IsBytes, length_of_fields}
-use Rattle.dcd_base.proofs.Agreement.{Agrees, Agrees-append, Agrees-split}
-use Rattle.dcd_base.proofs.Widths.{IsBytes-take, IsBytes-drop}
 
 -- one more piece is read
 pub pieces-goes_on : {X : Type 0} (f : List ℕ → X) (size n i : ℕ) (done : List X) (rest : List ℕ) (all : List X) → i < n

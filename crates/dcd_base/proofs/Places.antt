@@ -1,16 +1,10 @@
 -- Fields at a place, found where the bytes are long enough and read where they agree.
 use Rattle.std.proofs.Common.{◌≡◌, ℕ, zero, suc, ◌+◌, ◌%◌, ◌<◌, ◌≤◌, Bool, true, false, eqb, List, [], ◌∷◌, length, get_or, take, drop, refl, sym, ap, subst, ◌∙◌, arith, drop-cons, add-zero}
-use Rattle.std.specs.Prelude.{bit_and}
-use Rattle.std.specs.List.{list_all}
-use Rattle.std.specs.Int.{Width, w8, byte_len, to_le_bytes, from_le_bytes}
-use Rattle.std.proofs.lemmas.List.{length-take, length-drop, length-replicate, drop-drop, get_or-drop, nil_from_length}
-use Rattle.std.proofs.lemmas.Nat.{and_mask}
+use Rattle.std.proofs.lemmas.{List.length-take, List.length-drop, List.length-replicate, List.drop-drop, List.get_or-drop, List.nil_from_length, Nat.and_mask}
+use Rattle.std.specs.{Int.Width, Int.w8, Int.byte_len, Int.to_le_bytes, Int.from_le_bytes, List.list_all, Prelude.bit_and}
 use Rattle.dcd_base.specs.Layouts.{Field, Number, Raw, Reserved, Fixed, FitsField, ReadsField, Reads, spell, flag, is_byte, number_at}
-use Rattle.dcd_base.specs.Words.{flag_of}
-use Rattle.dcd_base.specs.Payloads.{has_flag}
-use Rattle.dcd_base.proofs.Agreement.{Agrees}
-use Rattle.dcd_base.proofs.Fields.{IsBytes, all_bytes, length_of_field}
-use Rattle.dcd_base.proofs.Widths.{IsBytes-take, IsBytes-drop, IsWide, wide_8}
+use Rattle.dcd_base.proofs.{Agreement.Agrees, Fields.IsBytes, Fields.all_bytes, Fields.length_of_field, Widths.IsBytes-take, Widths.IsBytes-drop, Widths.IsWide, Widths.wide_8}
+use Rattle.dcd_base.specs.{Payloads.has_flag, Words.flag_of}
 
 -- From this place on the bytes agree with the fields, to their end.
 pub record FieldsAt (bytes : List ℕ) (at : ℕ) (fields : List Field) : Type 0 where

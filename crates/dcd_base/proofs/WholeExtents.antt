@@ -1,15 +1,9 @@
 -- Extents with their tags, read and written.
 use Rattle.std.proofs.Common.{◌≡◌, ℕ, ◌+◌, ◌*◌, List, [], ◌∷◌, length, map, flat_map, drop, refl, ap, ◌∙◌, arith}
-use Rattle.std.specs.List.{AllByRecursion}
-use Rattle.std.specs.Int.{w16, w64}
-use Rattle.std.proofs.lemmas.List.{length-drop}
-use Rattle.dcd_base.specs.declared.capacity.Extent.{Extent}
-use Rattle.dcd_base.specs.Extents.{extent_bytes, extent_fields, whole_extent, FitsExtent}
-use Rattle.dcd_base.specs.Layouts.{FitsField, pieces, spelling}
-use Rattle.dcd_base.proofs.Fields.{IsBytes}
-use Rattle.dcd_base.proofs.Agreement.{Agrees, fits-append}
+use Rattle.std.{specs.List.AllByRecursion, specs.Int.w16, specs.Int.w64, proofs.lemmas.List.length-drop}
+use Rattle.dcd_base.proofs.{Agreement.Agrees, Agreement.fits-append, Fields.IsBytes, Pieces.each_is_good, Pieces.pieces_found, Pieces.pieces_only, Pieces.spelling_each}
 use Rattle.dcd_base.proofs.Widths.{IsBytes-drop, wide_16, wide_64}
-use Rattle.dcd_base.proofs.Pieces.{each_is_good, pieces_found, pieces_only, spelling_each}
+use Rattle.dcd_base.specs.{Extents.extent_bytes, Extents.extent_fields, Extents.whole_extent, Extents.FitsExtent, Layouts.FitsField, Layouts.pieces, Layouts.spelling, declared.capacity.Extent.Extent}
 use Rattle.dcd_base.proofs.Places.{FieldsAt, all_from, end_found, end_only, number_found, number_only, raw_found, raw_only, reserved_found, reserved_only}
 
 pub same_extent : (x y : Extent) → x.start ≡ y.start → x.length ≡ y.length → x.tag.0 ≡ y.tag.0 → x.sequence ≡ y.sequence → x ≡ y

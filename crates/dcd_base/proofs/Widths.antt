@@ -1,11 +1,9 @@
 -- Numbers of one, two, four and eight bytes, read and written.
 use Rattle.std.proofs.Common.{◌≡◌, ℕ, ◌+◌, ◌/◌, ◌%◌, ◌^◌, ◌<◌, List, [], ◌∷◌, ◌++◌, length, take, drop, refl, ap, arith, inl, inr, lit<}
-use Rattle.std.specs.Int.{Width, w8, w16, w32, w64, byte_len, to_le_bytes, from_le_bytes}
-use Rattle.std.proofs.lemmas.Bool.{cases_lt}
-use Rattle.std.proofs.lemmas.List.{length-take, get_or-take, get_or-drop, get_or_past}
+use Rattle.std.proofs.lemmas.{Bool.cases_lt, List.length-take, List.get_or-take, List.get_or-drop, List.get_or_past}
 use Rattle.std.proofs.lemmas.Nat.{le_bytes_2, le_bytes_4, le_bytes_8, from_le_bytes-to_le_bytes_2, from_le_bytes-to_le_bytes_4, from_le_bytes-to_le_bytes_8}
-use Rattle.dcd_base.specs.Layouts.{u16_bytes, u24_bytes}
-use Rattle.dcd_base.proofs.Fields.{IsBytes}
+use Rattle.std.specs.Int.{Width, w8, w16, w32, w64, byte_len, to_le_bytes, from_le_bytes}
+use Rattle.dcd_base.{specs.Layouts.u16_bytes, specs.Layouts.u24_bytes, proofs.Fields.IsBytes}
 
 pub IsBytes-drop : (n : ℕ) (bytes : List ℕ) → IsBytes bytes → IsBytes (drop n bytes)
 IsBytes-drop n bytes small i = rw get_or-drop (small (n + i))

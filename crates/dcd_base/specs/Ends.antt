@@ -1,8 +1,6 @@
 -- Sources and sinks in memory, which fail at calls that are told beforehand.
 use Rattle.std.specs.Prelude.{◌≡◌, if◌then◌else◌, ℕ, ◌+◌, ◌-◌, ◌^◌, min, Bool, ◌==◌, List, ◌++◌, length, take, drop, IsTrue, IsFalse}
-use Rattle.std.specs.List.{list_any}
-use Rattle.std.specs.declared.result.Result.{Result}
-use Rattle.std.specs.declared.result.Result.TheVariants.{Ok, Err}
+use Rattle.std.specs.{List.list_any, declared.result.Result.Result, declared.result.Result.TheVariants.Ok, declared.result.Result.TheVariants.Err}
 use Rattle.dcd_base.specs.declared.failures.Failed.{Failed}
 
 -- one more, up to the last value of 64 bits

@@ -1,8 +1,7 @@
 -- The payloads of 0100h and 0101h, which hosts and the manager ask alike.
 use Rattle.std.specs.Prelude.{ℕ, ◌^◌, ◌<◌, Bool, List, [], ◌∷◌, length, map, drop, slice_index}
 use Rattle.std.specs.Int.{w8, w16}
-use Rattle.dcd_base.specs.Layouts.{Field, Number, Reserved, flag, pieces, u16_in}
-use Rattle.dcd_base.specs.Payloads.{counted}
+use Rattle.dcd_base.specs.{Layouts.Field, Layouts.Number, Layouts.Reserved, Layouts.flag, Layouts.pieces, Layouts.u16_in, Payloads.counted}
 
 -- handles of event records, two bytes each
 abbrev pub handle_fields : List ℕ → List Field

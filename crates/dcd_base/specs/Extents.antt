@@ -1,10 +1,6 @@
 -- An extent with its tag, forty bytes.
-use Rattle.std.specs.Prelude.{List, [], ◌∷◌, ℕ}
-use Rattle.std.specs.List.{AllByRecursion}
-use Rattle.std.specs.Int.{w16, w64}
-use Rattle.dcd_base.specs.declared.capacity.Extent.{Extent}
-use Rattle.dcd_base.specs.Layouts.{Field, FitsField, Number, Raw, Reserved, number_at, spelling}
-use Rattle.dcd_base.specs.Payloads.{tag_at}
+use Rattle.std.specs.{Prelude.List, Prelude.[], Prelude.◌∷◌, Prelude.ℕ, List.AllByRecursion, Int.w16, Int.w64}
+use Rattle.dcd_base.specs.{declared.capacity.Extent.Extent, Layouts.Field, Layouts.FitsField, Layouts.Number, Layouts.Raw, Layouts.Reserved, Layouts.number_at, Layouts.spelling, Payloads.tag_at}
 
 -- start, length, tag, sequence number; the last six bytes are reserved
 abbrev pub extent_fields : Extent → List Field

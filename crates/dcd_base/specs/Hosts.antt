@@ -1,6 +1,5 @@
 -- A set of hosts as a number: bit h stands where host h is in it.
-use Rattle.std.specs.Prelude.{ℕ, ◌+◌, ◌-◌, ◌^◌, ◌==◌, Bool, if◌then◌else◌}
-use Rattle.std.specs.Int.{bit_at}
+use Rattle.std.specs.{Prelude.ℕ, Prelude.◌+◌, Prelude.◌-◌, Prelude.◌^◌, Prelude.◌==◌, Prelude.Bool, Prelude.if◌then◌else◌, Int.bit_at}
 
 abbrev pub has_host : ℕ → ℕ → Bool
 has_host hosts h = bit_at hosts h == 1

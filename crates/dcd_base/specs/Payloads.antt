@@ -1,9 +1,7 @@
 -- How a payload is read: its length, and what stands at a place.
 use Rattle.std.specs.Prelude.{◌≡◌, ◌≢◌, ℕ, ◌+◌, ◌*◌, ◌==◌, nat_lt, Bool, List, length, take, drop, slice_index, if◌then◌else◌, bit_and}
-use Rattle.std.specs.declared.result.Result.{Result}
-use Rattle.std.specs.declared.result.Result.TheVariants.{Ok, Err}
-use Rattle.dcd_base.specs.declared.capacity.Tag.{Tag}
-use Rattle.dcd_base.specs.declared.faults.PayloadFault.{PayloadFault}
+use Rattle.std.specs.declared.result.Result.{Result, TheVariants.Ok, TheVariants.Err}
+use Rattle.dcd_base.specs.declared.{capacity.Tag.Tag, faults.PayloadFault.PayloadFault}
 
 -- this value, where the payload has the length that it needs; else the fault that says both lengths
 abbrev pub sized : {X : Type 0} → ℕ → List ℕ → X → Result X PayloadFault

@@ -2,8 +2,7 @@
 use Rattle.std.specs.Prelude.{if◌then◌else◌, Option, Some, None, Bool, ◌==◌, List, [], ◌∷◌, ℕ, ◌+◌, ◌++◌, fold, replicate, nat_lt, ◌&&◌, nat_le}
 use Rattle.std.specs.List.{list_any}
 use lib.Pointwise.{pointwise}
-use Rattle.dcd_base.specs.declared.capacity.Tag.{Tag}
-use Rattle.dcd_base.specs.declared.media.Run.{Run}
+use Rattle.dcd_base.specs.declared.{capacity.Tag.Tag, media.Run.Run}
 
 -- whether these are one tag
 abbrev pub same_tag : Tag → Tag → Bool

@@ -1,12 +1,7 @@
 -- The bases of the hosts, one host after another.
 use Rattle.std.proofs.Common.{◌≡◌, ℕ, zero, suc, ◌+◌, ◌*◌, [], ◌∷◌, ◌++◌, ap, ◌∙◌, append-nil, arith, flat_map, length}
-use Rattle.std.proofs.Math.Nat.{suc-mul}
-use Rattle.std.proofs.lemmas.Grind.{flat_map-append}
-use Rattle.std.proofs.lemmas.List.{length-append}
-use Rattle.std.proofs.lemmas.List.FromFn.{length-map-range_with_len}
-use Rattle.std.specs.List.{range_with_len}
-use Rattle.region_config.specs.Configurations.{Configuration}
-use Rattle.region_config.specs.Granules.{base_of}
+use Rattle.std.{proofs.Math.Nat.suc-mul, proofs.lemmas.Grind.flat_map-append, proofs.lemmas.List.length-append, proofs.lemmas.List.FromFn.length-map-range_with_len, specs.List.range_with_len}
+use Rattle.region_config.specs.{Configurations.Configuration, Granules.base_of}
 use Rattle.dcd_c.specs.Lists.{host_bases}
 
 -- one number more

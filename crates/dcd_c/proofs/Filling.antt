@@ -1,11 +1,7 @@
 -- Lists that are put into a caller's room item by item.
 use Rattle.std.proofs.Common.{◌≡◌, ℕ, suc, ◌+◌, ◌<◌, List, [], ◌∷◌, ◌++◌, sym, ap, ◌∙◌, append-nil, arith, drop, flat_map, get_or, length, map, set, take}
-use Rattle.std.proofs.lemmas.Grind.{flat_map-append}
-use Rattle.std.proofs.lemmas.List.{append_assoc, drop-drop, take-append-drop}
-use Rattle.std.proofs.lemmas.List.{drop-set-lt, map_push, take_more, take_more_set}
-use Rattle.std.proofs.lemmas.List.FromFn.{map-range_with_len_more}
-use Rattle.std.proofs.lemmas.Option.{get_or_from_slice_get, slice_get_within}
-use Rattle.std.specs.List.{range_with_len}
+use Rattle.std.proofs.lemmas.{Grind.flat_map-append, List.append_assoc, List.drop-drop, List.take-append-drop, List.drop-set-lt, List.map_push, List.take_more, List.take_more_set}
+use Rattle.std.{proofs.lemmas.List.FromFn.map-range_with_len_more, proofs.lemmas.Option.get_or_from_slice_get, proofs.lemmas.Option.slice_get_within, specs.List.range_with_len}
 use Rattle.std.specs.Prelude.{Some, slice_get}
 
 -- what stands in front and behind is the whole

@@ -1,19 +1,11 @@
 -- A map that is kept by the runs that are told is what the host holds.
 use Rattle.std.proofs.Common.{◌≡◌, ℕ, ◌==◌, ◌&&◌, Bool, true, false, List, [], ◌∷◌, ◌++◌, refl, sym, ap, subst, ◌∙◌, append-nil, fold, inl, inr, if◌then◌else◌}
-use Rattle.std.proofs.lemmas.List.{append_assoc}
-use Rattle.std.proofs.lemmas.Grind.{flat_map-append, fold-append}
-use Rattle.dcd_base.specs.Words.{has_granule}
-use Rattle.dcd_base.specs.declared.ids.HostId.{HostId}
+use Rattle.std.proofs.lemmas.{List.append_assoc, Grind.flat_map-append, Grind.fold-append}
+use Rattle.dcd_base.specs.{Words.has_granule, declared.ids.HostId.HostId}
 use Rattle.region_config.specs.Configurations.{Configuration}
-use Rattle.journal_core.specs.Entries.{effects}
-use Rattle.journal_core.specs.Holders.{holding_after, holds}
-use Rattle.journal_core.specs.declared.entries.Entry.{Entry}
-use Rattle.journal_core.specs.declared.outcome.Effect.{Effect}
-use Rattle.device_plain.specs.device_rules.specs.Legal.{right_answer}
-use Rattle.device_plain.specs.Lives.{IsLife}
-use Rattle.dcd_c.specs.Changes.{mapped, mapped_after, runs_told, told_by}
-use Rattle.dcd_c.specs.Maps.{MovesOn, all_changed}
-use Rattle.dcd_c.specs.declared.sessions.Session.{Session}
+use Rattle.journal_core.specs.{Entries.effects, Holders.holding_after, Holders.holds, declared.entries.Entry.Entry, declared.outcome.Effect.Effect}
+use Rattle.device_plain.specs.{device_rules.specs.Legal.right_answer, Lives.IsLife}
+use Rattle.dcd_c.specs.{Changes.mapped, Changes.mapped_after, Changes.runs_told, Changes.told_by, Maps.MovesOn, Maps.all_changed, declared.sessions.Session.Session}
 
 if_same : (b m : Bool) → (if b then m else m) ≡ m
 if_same true m = refl

@@ -1,19 +1,13 @@
 -- The extents of offers, one offer after another.
 use Rattle.std.proofs.Common.{◌≡◌, ℕ, zero, suc, ◌+◌, ◌%◌, ◌^◌, ◌<◌, ◌≤◌, List, [], ◌∷◌, ◌++◌, sym, ap, ◌∙◌, append-nil, arith, drop, length, map, refl, subst, sum_by, take}
-use Rattle.std.proofs.lemmas.List.{append_assoc, length-append, length-map, length-take-le, take-append-drop, take_more}
-use Rattle.std.proofs.lemmas.List.Sums.{sum_by-append, sum_by-cons, sum_by_push}
-use Rattle.std.proofs.lemmas.Option.{get_or_from_slice_get, slice_get_within}
-use Rattle.std.specs.Prelude.{Some, slice_get}
-use Rattle.dcd_base.specs.declared.capacity.Extent.{Extent}
-use Rattle.dcd_base.specs.declared.ids.HostId.{HostId}
+use Rattle.std.proofs.lemmas.List.{append_assoc, length-append, length-map, length-take-le, take-append-drop, take_more, Sums.sum_by-append, Sums.sum_by-cons, Sums.sum_by_push}
+use Rattle.std.{proofs.lemmas.Option.get_or_from_slice_get, proofs.lemmas.Option.slice_get_within, specs.Prelude.Some, specs.Prelude.slice_get}
+use Rattle.dcd_base.specs.declared.{capacity.Extent.Extent, ids.HostId.HostId}
 use Rattle.region_config.specs.Configurations.{Configuration}
-use Rattle.journal_core.specs.Entries.{effects}
-use Rattle.journal_core.specs.declared.entries.Entry.{Entry}
+use Rattle.journal_core.specs.{Entries.effects, declared.entries.Entry.Entry}
 use Rattle.device_plain.specs.Lives.{ByEveryLife, IsAlive, IsLife, Living}
-use Rattle.device_plain.specs.control_core.specs.Pasts.{ByEveryPast, IsPast, LiveControlled}
-use Rattle.device_plain.specs.control_core.specs.manager_commands.proofs.FewExtents.{few_extents}
-use Rattle.device_plain.specs.device_rules.specs.Hosts.{offers_of}
-use Rattle.device_plain.specs.device_state.specs.StateAfter.{part_of}
+use Rattle.device_plain.specs.control_core.specs.{Pasts.ByEveryPast, Pasts.IsPast, Pasts.LiveControlled, manager_commands.proofs.FewExtents.few_extents}
+use Rattle.device_plain.specs.{device_rules.specs.Hosts.offers_of, device_state.specs.StateAfter.part_of}
 use Rattle.extent_list.specs.HostLists.{Lists}
 use Rattle.dcd_c.specs.Lists.{extent_told, offers_from}
 

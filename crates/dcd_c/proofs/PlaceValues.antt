@@ -1,6 +1,5 @@
 -- The machine values of a place. Assumes `Logic`.
-use Rattle.std.proofs.Common.{◌≡◌, List, [], ◌∷◌, ◌++◌, refl, subst}
-use Rattle.std.proofs.lemmas.Bool.{false≢true}
+use Rattle.std.proofs.{Common.◌≡◌, Common.List, Common.[], Common.◌∷◌, Common.◌++◌, Common.refl, Common.subst, lemmas.Bool.false≢true}
 use Rattle.std.specs.Prelude.{IsTrue, Option, Some, None}
 use seplogic.Ra.Ura.{Ura}
 use mir.Val.{Val, vstruct, vcons, vnil, of_list}
@@ -12,9 +11,8 @@ use denote.RawPtr.{Ptr, ptr_val}
 use denote.Steps.{nothing}
 use denote.Struct.Struct.{within}
 use denote.Struct.Owning.{shape}
-use Rattle.dcd_c.specs.Places.{has_device, place_owns}
+use Rattle.dcd_c.specs.{Places.has_device, Places.place_owns, declared.sessions.Session.Session}
 use Rattle.dcd_c.specs.contracts.places.Place as place
-use Rattle.dcd_c.specs.declared.sessions.Session.{Session}
 
 abbrev pub Place : RattleType
 Place = place.the_row

@@ -1,15 +1,11 @@
 -- The records of a log, as its journal says.
 use Rattle.std.proofs.Common.{◌≡◌, List, refl, sym, ap, subst, ◌∙◌}
 use Rattle.dcd_base.specs.declared.steps.LogId.{LogId}
-use Rattle.event_log.specs.LogStates.{LogState}
-use Rattle.event_log.specs.Logs.{places_in, state_of}
+use Rattle.event_log.specs.{LogStates.LogState, Logs.places_in, Logs.state_of}
 use Rattle.region_config.specs.Configurations.{Configuration}
-use Rattle.journal_core.specs.Entries.{effects}
-use Rattle.journal_core.specs.declared.outcome.Effect.{Effect}
-use Rattle.device_plain.specs.Lives.{ByEveryLife, Living}
-use Rattle.device_plain.specs.control_core.specs.Pasts.{ByEveryPast, IsPast, LiveControlled}
-use Rattle.device_plain.specs.device_rules.specs.Counts.{records_of}
-use Rattle.device_plain.specs.device_rules.specs.Logs.{log_of}
+use Rattle.journal_core.specs.{Entries.effects, declared.outcome.Effect.Effect}
+use Rattle.device_plain.specs.{Lives.ByEveryLife, Lives.Living, control_core.specs.Pasts.ByEveryPast, control_core.specs.Pasts.IsPast, control_core.specs.Pasts.LiveControlled}
+use Rattle.device_plain.specs.device_rules.specs.{Counts.records_of, Logs.log_of}
 
 records_are : (l : LogId) (past : List Effect) → (state_of (places_in l) (log_of l past)).records ≡ records_of l past
 unfolding records_of

@@ -1,9 +1,7 @@
 -- The bytes of a response, put part by part.
 use Rattle.std.proofs.Common.{◌≡◌, ℕ, ◌+◌, List, [], ◌∷◌, ◌++◌, length, take, drop, sym, ap, ◌∙◌, arith}
-use Rattle.std.proofs.lemmas.List.{append-nil, drop-drop, length-append, take-append-drop}
-use Rattle.std.proofs.lemmas.Grind.{flat_map-append}
-use Rattle.cci_codec.specs.Messages.{response_bytes, response_head_fields}
-use Rattle.cci_codec.specs.declared.messages.Response.{Response}
+use Rattle.std.proofs.lemmas.{List.append-nil, List.drop-drop, List.length-append, List.take-append-drop, Grind.flat_map-append}
+use Rattle.cci_codec.specs.{Messages.response_bytes, Messages.response_head_fields, declared.messages.Response.Response}
 use Rattle.dcd_base.specs.Layouts.{Field, Raw, spell, spelling}
 
 -- a response is its header and then its payload

@@ -1,13 +1,8 @@
 -- Runs that begin behind the last granule, and what effects tell, one after another.
 use Rattle.std.proofs.Common.{◌≡◌, ℕ, suc, zero, ◌+◌, ◌≤◌, ◌<◌, Bool, false, List, [], ◌∷◌, ◌++◌, refl, sym, ap, ◌∙◌, append-nil, arith, drop, flat_map, get_or, length, take}
-use Rattle.std.proofs.lemmas.Bool.{le-ltb}
-use Rattle.std.proofs.lemmas.Grind.{flat_map-append}
-use Rattle.std.proofs.lemmas.List.{length-append, take-append-drop, take_more}
-use Rattle.std.specs.List.{find, range_with_len}
-use Rattle.std.specs.Prelude.{nat_lt, None, unwrap_or}
-use Rattle.region_config.proofs.Faultless.{granules_rise}
-use Rattle.region_config.specs.Configurations.{Configuration}
-use Rattle.region_config.specs.Granules.{first_granule, granule_total, region_of}
+use Rattle.std.proofs.lemmas.{Bool.le-ltb, Grind.flat_map-append, List.length-append, List.take-append-drop, List.take_more}
+use Rattle.std.specs.{List.find, List.range_with_len, Prelude.nat_lt, Prelude.None, Prelude.unwrap_or}
+use Rattle.region_config.{proofs.Faultless.granules_rise, specs.Configurations.Configuration, specs.Granules.first_granule, specs.Granules.granule_total, specs.Granules.region_of}
 use Rattle.journal_core.specs.declared.outcome.Effect.{Effect}
 use Rattle.dcd_c.specs.Changes.{runs_told, told_by}
 

@@ -1,11 +1,8 @@
 -- What is appended part by part: a region of a head, and the words of a fault.
-use Rattle.std.proofs.Common.{◌≡◌, ℕ, List, ◌++◌, ◌%◌, sym, ap, ◌∙◌}
-use Rattle.std.proofs.lemmas.List.{append_assoc}
+use Rattle.std.proofs.{Common.◌≡◌, Common.ℕ, Common.List, Common.◌++◌, Common.◌%◌, Common.sym, Common.ap, Common.◌∙◌, lemmas.List.append_assoc}
 use Rattle.std.specs.Prelude.{codes}
 use Rattle.dcd_base.specs.Layouts.{u32_bytes, u64_bytes}
-use Rattle.dcd_c.specs.Opening.{region_spelled}
-use Rattle.dcd_c.specs.Texts.{cause_text, place_words, region_words}
-use Rattle.dcd_c.specs.declared.heads.RegionTold.{RegionTold}
+use Rattle.dcd_c.specs.{Opening.region_spelled, Texts.cause_text, Texts.place_words, Texts.region_words, declared.heads.RegionTold.RegionTold}
 
 -- what stands behind a part stands behind what the part was appended to
 behind : (mid out part rest : List ℕ) → mid ≡ out ++ part → mid ++ rest ≡ out ++ (part ++ rest)

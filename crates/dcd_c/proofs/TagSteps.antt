@@ -1,17 +1,13 @@
 -- The live tags, as the journal says.
 use Rattle.std.proofs.Common.{◌≡◌, ℕ, List, ap, ◌∙◌, length, map, subst, sym}
-use Rattle.std.proofs.lemmas.List.{length-map}
-use Rattle.std.specs.Prelude.{Some, slice_get}
+use Rattle.std.{proofs.lemmas.List.length-map, specs.Prelude.Some, specs.Prelude.slice_get}
 use Rattle.dcd_base.specs.declared.tags.TagView.{TagView}
 use Rattle.region_config.specs.Configurations.{Configuration}
-use Rattle.journal_core.specs.Entries.{effects}
-use Rattle.journal_core.specs.declared.entries.Entry.{Entry}
+use Rattle.journal_core.specs.{Entries.effects, declared.entries.Entry.Entry}
 use Rattle.tag_refs.specs.Tables.{tag_view}
 use Rattle.device_plain.specs.Lives.{ByEveryLife, IsAlive, IsLife, Living}
-use Rattle.device_plain.specs.control_core.specs.Pasts.{ByEveryPast, IsPast, LiveControlled}
-use Rattle.device_plain.specs.control_core.specs.manager_commands.proofs.TagReadings.{tags_length, tags_seen}
-use Rattle.device_plain.specs.device_rules.specs.TagCommands.{tag_seen}
-use Rattle.device_plain.specs.device_rules.specs.Tags.{open_tags}
+use Rattle.device_plain.specs.control_core.specs.{Pasts.ByEveryPast, Pasts.IsPast, Pasts.LiveControlled, manager_commands.proofs.TagReadings.tags_length, manager_commands.proofs.TagReadings.tags_seen}
+use Rattle.device_plain.specs.device_rules.specs.{TagCommands.tag_seen, Tags.open_tags}
 use Rattle.dcd_c.specs.Lists.{tag_told, tags_told}
 
 module _ (d : Living) (alive : IsAlive d) (k : LiveControlled) (config : k.config ≡ d.config) (pasts : ByEveryLife d (λ life. IsPast d.config life k.state)) where

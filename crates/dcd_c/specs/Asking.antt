@@ -1,19 +1,12 @@
 -- What the library tells of a device without changing it.
 use Rattle.std.specs.Prelude.{◌≡◌, ℕ, ◌<◌, ◌≤◌, ◌^◌, ◌%◌, List, length, sum_by, Option, Some, None, Result, Ok, Err}
-use Rattle.dcd_base.specs.declared.capacity.Extent.{Extent}
-use Rattle.dcd_base.specs.declared.steps.LogId.{LogId}
-use Rattle.region_config.specs.Granules.{granule_total}
-use Rattle.journal_core.specs.Entries.{effects}
-use Rattle.journal_core.specs.declared.entries.Entry.{Entry}
+use Rattle.dcd_base.specs.declared.{capacity.Extent.Extent, steps.LogId.LogId}
+use Rattle.region_config.specs.{Granules.granule_total, declared.region_spec.RegionSpec.RegionSpec}
+use Rattle.journal_core.specs.{Entries.effects, declared.entries.Entry.Entry}
+use Rattle.device_plain.specs.Lives.{ByEveryLife, Living}
 use Rattle.device_plain.specs.device_rules.specs.Counts.{dirty_count, extent_count, free_count, granules_held, missed_of, records_of}
 use Rattle.device_plain.specs.device_rules.specs.Hosts.{accepted_of, offers_of}
-use Rattle.device_plain.specs.Lives.{ByEveryLife, Living}
-use Rattle.dcd_c.specs.Statuses.{status_of_call}
-use Rattle.dcd_c.specs.declared.faults.Fault.{Fault}
-use Rattle.dcd_c.specs.declared.sessions.Session.{Session}
-use Rattle.region_config.specs.declared.region_spec.RegionSpec.{RegionSpec}
-use Rattle.dcd_c.specs.declared.asking.HostState.{HostState}
-use Rattle.dcd_c.specs.declared.asking.MemoryState.{MemoryState}
+use Rattle.dcd_c.specs.{Statuses.status_of_call, declared.faults.Fault.Fault, declared.sessions.Session.Session, declared.asking.HostState.HostState, declared.asking.MemoryState.MemoryState}
 
 -- the bytes of extents, in the 64 bits of a number
 abbrev pub bytes_of_extents : List Extent → ℕ

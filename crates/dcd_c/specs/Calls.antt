@@ -1,22 +1,12 @@
 -- What the calls of the library do, as relations between the device before and behind them.
 use Rattle.std.specs.Prelude.{◌≡◌, ◌≢◌, ℕ, ◌+◌, ◌<◌, ◌≤◌, ◌==◌, nat_lt, List, [], ◌++◌, drop, length, Option, Some, None, IsSome, Result, Ok, Err, if◌then◌else◌}
-use Rattle.dcd_base.specs.declared.steps.Actor.{Actor}
-use Rattle.dcd_base.specs.declared.steps.LogId.{LogId}
-use Rattle.cci_codec.specs.Messages.{ReadsRequest, message_fault, response_bytes}
-use Rattle.cci_codec.specs.declared.faults.MessageFault.{MessageFault}
-use Rattle.cci_codec.specs.declared.messages.Request.{Request}
+use Rattle.dcd_base.specs.declared.steps.{Actor.Actor, LogId.LogId}
+use Rattle.cci_codec.specs.{Messages.ReadsRequest, Messages.message_fault, Messages.response_bytes, declared.faults.MessageFault.MessageFault, declared.messages.Request.Request}
 use Rattle.cci_codec.specs.declared.messages.Response.{Response}
-use Rattle.journal_core.specs.declared.acts.Act.{Act}
-use Rattle.journal_core.specs.declared.acts.Reply.{Reply}
-use Rattle.script_codec.specs.LineByLine.{Begins, FailsInHead}
-use Rattle.script_codec.specs.Unread.{Unread}
-use Rattle.script_codec.specs.declared.faults.ScriptFault.{ScriptFault}
-use Rattle.script_codec.specs.declared.heads.Head.{Head}
-use Rattle.device_plain.specs.device_rules.specs.Legal.{right_answer}
-use Rattle.device_plain.specs.Lives.{ByEveryLife, IsLife, Living, payload_length}
-use Rattle.dcd_c.specs.Sessions.{IsIdle, Steps}
-use Rattle.dcd_c.specs.declared.sessions.Session.{Session}
-use Rattle.dcd_c.specs.declared.faults.Fault.{Fault}
+use Rattle.journal_core.specs.declared.acts.{Act.Act, Reply.Reply}
+use Rattle.script_codec.specs.{LineByLine.Begins, LineByLine.FailsInHead, Unread.Unread, declared.faults.ScriptFault.ScriptFault, declared.heads.Head.Head}
+use Rattle.device_plain.specs.{device_rules.specs.Legal.right_answer, Lives.ByEveryLife, Lives.IsLife, Lives.Living, Lives.payload_length}
+use Rattle.dcd_c.specs.{Sessions.IsIdle, Sessions.Steps, declared.sessions.Session.Session, declared.faults.Fault.Fault}
 
 -- the actor of a number: a host, or FEh for the Fabric Manager
 abbrev pub actor_numbered : ℕ → ℕ → Option Actor

@@ -1,19 +1,11 @@
 -- What the last step changed, as C is told it: runs gained, lost and zeroed, and the logs that grew.
 use Rattle.std.specs.Prelude.{◌≡◌, ℕ, ◌+◌, ◌-◌, ◌*◌, ◌%◌, ◌^◌, ◌<◌, ◌==◌, ◌&&◌, nat_lt, Bool, true, false, List, [], ◌∷◌, ◌++◌, drop, flat_map, fold, length, take, sum_by, Result, Ok, Err, Option, Some, None, if◌then◌else◌}
 use Rattle.std.specs.Int.Bits.{bit_or}
-use Rattle.dcd_base.specs.Words.{has_granule}
-use Rattle.dcd_base.specs.declared.ids.HostId.{HostId}
-use Rattle.dcd_base.specs.declared.media.Run.{Run}
-use Rattle.dcd_base.specs.declared.steps.LogId.{LogId}
+use Rattle.dcd_base.specs.{Words.has_granule, declared.ids.HostId.HostId, declared.media.Run.Run, declared.steps.LogId.LogId}
 use Rattle.media_map.specs.Places.{bytes_of_run, start_of}
-use Rattle.region_config.specs.Configurations.{Configuration}
-use Rattle.region_config.specs.Granules.{first_granule, granule_size, region_of}
+use Rattle.region_config.specs.{Configurations.Configuration, Granules.first_granule, Granules.granule_size, Granules.region_of}
 use Rattle.journal_core.specs.declared.outcome.Effect.{Effect}
-use Rattle.dcd_c.specs.Statuses.{status_of_call}
-use Rattle.dcd_c.specs.declared.changes.RunTold.{RunTold}
-use Rattle.dcd_c.specs.declared.changes.StepTold.{StepTold}
-use Rattle.dcd_c.specs.declared.faults.Fault.{Fault}
-use Rattle.dcd_c.specs.declared.sessions.Session.{Session}
+use Rattle.dcd_c.specs.{Statuses.status_of_call, declared.changes.RunTold.RunTold, declared.changes.StepTold.StepTold, declared.faults.Fault.Fault, declared.sessions.Session.Session}
 
 -- where a run begins in the memory behind the device, in which the regions stand one behind another
 abbrev pub media_of : Configuration → Run → ℕ

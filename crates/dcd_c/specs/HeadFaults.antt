@@ -1,11 +1,8 @@
 -- The fault of a head as a number and a place, the same that the line of a refused script tells.
 use Rattle.std.specs.Prelude.{◌≡◌, ℕ, Result, Err}
 use Rattle.region_config.specs.declared.faults.ConfigFault.{ConfigFault}
-use Rattle.script_codec.specs.declared.faults.ScriptFault.{ScriptFault}
-use Rattle.script_codec.specs.FaultNumbers.{fault_number, fault_place}
-use Rattle.dcd_c.specs.Statuses.{status_of_call}
-use Rattle.dcd_c.specs.declared.faults.Fault.{Fault}
-use Rattle.dcd_c.specs.declared.head_faults.HeadFault.{HeadFault}
+use Rattle.script_codec.specs.{declared.faults.ScriptFault.ScriptFault, FaultNumbers.fault_number, FaultNumbers.fault_place}
+use Rattle.dcd_c.specs.{Statuses.status_of_call, declared.faults.Fault.Fault, declared.head_faults.HeadFault.HeadFault}
 
 -- the number of the fault of a configuration, and the host and the region that it is about, or 0
 abbrev pub config_cause : ConfigFault → ℕ × ℕ × ℕ

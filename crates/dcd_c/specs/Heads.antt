@@ -1,10 +1,7 @@
 -- The parts of opening a device.
 use Rattle.std.specs.Prelude.{◌≡◌, ◌≢◌, ℕ, List, Result, Ok, Err}
 use Rattle.region_config.specs.Configurations.{Configuration}
-use Rattle.script_codec.specs.LineByLine.{Begins, FailsInHead}
-use Rattle.script_codec.specs.Unread.{Unread}
-use Rattle.script_codec.specs.declared.faults.ScriptFault.{ScriptFault}
-use Rattle.script_codec.specs.declared.heads.Head.{Head}
+use Rattle.script_codec.specs.{LineByLine.Begins, LineByLine.FailsInHead, Unread.Unread, declared.faults.ScriptFault.ScriptFault, declared.heads.Head.Head}
 use Rattle.dcd_c.specs.declared.faults.Fault.{Fault}
 
 -- The bytes begin with a head of this configuration.

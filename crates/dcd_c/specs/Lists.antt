@@ -1,26 +1,13 @@
 -- Lists in the caller's room: extents, tags, records, regions, bases.
 use Rattle.std.specs.Prelude.{◌≡◌, ℕ, suc, ◌+◌, ◌*◌, ◌%◌, ◌^◌, ◌<◌, ◌≤◌, List, [], ◌∷◌, ◌++◌, drop, flat_map, length, map, Bool, true, false, Option, Some, None, Result, Ok, Err}
 use Rattle.std.specs.List.{range_with_len}
-use Rattle.dcd_base.specs.declared.capacity.Extent.{Extent}
-use Rattle.dcd_base.specs.declared.steps.LogId.{LogId}
-use Rattle.dcd_base.specs.declared.tags.TagView.{TagView}
+use Rattle.dcd_base.specs.declared.{capacity.Extent.Extent, steps.LogId.LogId, tags.TagView.TagView}
 use Rattle.event_records.specs.Records.{record_bytes}
-use Rattle.region_config.specs.Configurations.{Configuration}
-use Rattle.region_config.specs.Granules.{base_of}
-use Rattle.region_config.specs.declared.region_spec.RegionSpec.{RegionSpec}
-use Rattle.journal_core.specs.Entries.{effects}
-use Rattle.journal_core.specs.declared.entries.Entry.{Entry}
-use Rattle.device_plain.specs.device_rules.specs.Adding.{present}
-use Rattle.device_plain.specs.device_rules.specs.Counts.{records_of}
-use Rattle.device_plain.specs.device_rules.specs.Hosts.{accepted_of, offers_of}
-use Rattle.device_plain.specs.device_rules.specs.TagCommands.{tag_seen}
-use Rattle.device_plain.specs.device_rules.specs.Tags.{open_tags}
-use Rattle.device_plain.specs.Lives.{ByEveryLife, Living}
-use Rattle.dcd_c.specs.Calls.{log_numbered}
-use Rattle.dcd_c.specs.declared.faults.Fault.{Fault}
-use Rattle.dcd_c.specs.declared.heads.RegionTold.{RegionTold}
-use Rattle.dcd_c.specs.declared.lists.ExtentTold.{ExtentTold}
-use Rattle.dcd_c.specs.declared.sessions.Session.{Session}
+use Rattle.region_config.specs.{Configurations.Configuration, Granules.base_of, declared.region_spec.RegionSpec.RegionSpec}
+use Rattle.journal_core.specs.{Entries.effects, declared.entries.Entry.Entry}
+use Rattle.device_plain.specs.{Lives.ByEveryLife, Lives.Living, device_rules.specs.Adding.present, device_rules.specs.Counts.records_of}
+use Rattle.device_plain.specs.device_rules.specs.{Hosts.accepted_of, Hosts.offers_of, TagCommands.tag_seen, Tags.open_tags}
+use Rattle.dcd_c.specs.{Calls.log_numbered, declared.faults.Fault.Fault, declared.heads.RegionTold.RegionTold, declared.lists.ExtentTold.ExtentTold, declared.sessions.Session.Session}
 use Rattle.dcd_c.specs.declared.tags.TagTold.{TagTold}
 
 -- What putting a list into the caller's room answers, by every journal that leads to the device: the list stands there and is

@@ -1,11 +1,8 @@
 -- A caller that applies all that was told as changed, from a fresh device on.
 use Rattle.std.specs.Prelude.{◌≡◌, ◌⊎◌, List, [], ◌∷◌, flat_map}
 use Rattle.dcd_base.specs.declared.steps.Actor.{Actor}
-use Rattle.journal_core.specs.declared.acts.Act.{Act}
-use Rattle.journal_core.specs.declared.acts.Reply.{Reply}
-use Rattle.journal_core.specs.declared.outcome.Effect.{Effect}
-use Rattle.dcd_c.specs.Sessions.{IsIdle, Steps}
-use Rattle.dcd_c.specs.declared.sessions.Session.{Session}
+use Rattle.journal_core.specs.declared.{acts.Act.Act, acts.Reply.Reply, outcome.Effect.Effect}
+use Rattle.dcd_c.specs.{Sessions.IsIdle, Sessions.Steps, declared.sessions.Session.Session}
 
 -- A call took a step.
 pub record Stepped (old new : Session) : Type 0 where

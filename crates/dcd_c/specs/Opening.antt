@@ -1,11 +1,7 @@
 -- The device of hosts, regions and bases: that of the head that spells them.
 use Rattle.std.specs.Prelude.{◌≡◌, ℕ, ◌*◌, ◌%◌, ◌==◌, nat_lt, Bool, true, false, List, ◌++◌, codes, flat_map, length, replicate, Option, Some, None, Result, Err, if◌then◌else◌}
 use Rattle.dcd_base.specs.Layouts.{u8_bytes, u16_bytes, u32_bytes, u64_bytes}
-use Rattle.dcd_c.specs.Calls.{OpensPlace}
-use Rattle.dcd_c.specs.Sessions.{IsIdle}
-use Rattle.dcd_c.specs.declared.faults.Fault.{Fault}
-use Rattle.dcd_c.specs.declared.heads.RegionTold.{RegionTold}
-use Rattle.dcd_c.specs.declared.sessions.Session.{Session}
+use Rattle.dcd_c.specs.{Calls.OpensPlace, Sessions.IsIdle, declared.faults.Fault.Fault, declared.heads.RegionTold.RegionTold, declared.sessions.Session.Session}
 
 -- what stands before the regions: more than 255 of them are spelled as 255, which no head may have
 abbrev pub counts_spelled : ℕ → ℕ → List ℕ

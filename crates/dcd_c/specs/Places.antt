@@ -1,12 +1,9 @@
 -- What a place for a device owns: the device and the right to free its block, if there is one.
-use Rattle.std.specs.Prelude.{Bool, true, false, Option, Some, None}
+use Rattle.std.specs.{Box.Ownership.box_owns, Prelude.Bool, Prelude.true, Prelude.false, Prelude.Option, Prelude.Some, Prelude.None, contracts.impls.GlobalAllocator.TheImpl.ghosts}
+use Rattle.std.specs.declared.alloc.Global.{Global}
 use base.Fml.{Fml, ftrue}
 use denote.RawPtr.{Ptr}
-use Rattle.std.specs.Box.Ownership.{box_owns}
-use Rattle.std.specs.contracts.impls.GlobalAllocator.TheImpl.{ghosts}
-use Rattle.std.specs.declared.alloc.Global.{Global}
-use Rattle.dcd_c.specs.declared.sessions.Session.{Session}
-use Rattle.dcd_c.specs.contracts.sessions.Session.{the_row}
+use Rattle.dcd_c.specs.{declared.sessions.Session.Session, contracts.sessions.Session.the_row}
 
 -- the C library's heap, of which there is one
 abbrev pub the_heap : Global

@@ -1,20 +1,13 @@
 -- The rule that a request would break now, and its sentence.
 use Rattle.std.specs.Prelude.{◌≡◌, ◌≢◌, ℕ, List, [], slice_index, Option, Some, None, Result, Ok, Err}
-use Rattle.cci_codec.specs.Messages.{ReadsRequest, message_fault}
-use Rattle.cci_codec.specs.declared.faults.MessageFault.{MessageFault}
-use Rattle.cci_codec.specs.declared.messages.Request.{Request}
+use Rattle.cci_codec.specs.{Messages.ReadsRequest, Messages.message_fault, declared.faults.MessageFault.MessageFault, declared.messages.Request.Request}
 use Rattle.dcd_base.specs.declared.steps.Actor.{Actor}
-use Rattle.dcd_codes.specs.Rules.{code_of, number_of}
-use Rattle.dcd_codes.specs.declared.rules.Rule.{Rule}
+use Rattle.dcd_codes.specs.{Rules.code_of, Rules.number_of, declared.rules.Rule.Rule}
 use Rattle.region_config.specs.Configurations.{Configuration}
 use Rattle.journal_core.specs.declared.acts.Act.{Act}
 use Rattle.text_lines.specs.CauseWords.{cause_words}
-use Rattle.device_plain.specs.device_rules.specs.Answers.{broken}
-use Rattle.device_plain.specs.Lives.{ByEveryLife, Living}
-use Rattle.dcd_c.specs.Calls.{actor_numbered}
-use Rattle.dcd_c.specs.RuleNumbers.{rule_number, rule_values, value_count}
-use Rattle.dcd_c.specs.Words.{PutsWords}
-use Rattle.dcd_c.specs.declared.faults.Fault.{Fault}
+use Rattle.device_plain.specs.{device_rules.specs.Answers.broken, Lives.ByEveryLife, Lives.Living}
+use Rattle.dcd_c.specs.{Calls.actor_numbered, RuleNumbers.rule_number, RuleNumbers.rule_values, RuleNumbers.value_count, Words.PutsWords, declared.faults.Fault.Fault}
 use Rattle.dcd_c.specs.declared.refusals.RefusalTold.{RefusalTold}
 
 -- a rule as C sees it, or none

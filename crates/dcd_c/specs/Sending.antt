@@ -1,17 +1,10 @@
 -- The parts of sending a message.
 use Rattle.std.specs.Prelude.{◌≡◌, ◌≢◌, ℕ, ◌+◌, ◌<◌, ◌≤◌, List, length, Some, Result, Ok, Err}
-use Rattle.cci_codec.specs.Messages.{ReadsRequest, message_fault}
-use Rattle.cci_codec.specs.declared.faults.MessageFault.{MessageFault}
-use Rattle.cci_codec.specs.declared.messages.Request.{Request}
-use Rattle.cci_codec.specs.declared.messages.Response.{Response}
+use Rattle.cci_codec.specs.{Messages.ReadsRequest, Messages.message_fault, declared.faults.MessageFault.MessageFault, declared.messages.Request.Request, declared.messages.Response.Response}
 use Rattle.dcd_base.specs.declared.steps.Actor.{Actor}
-use Rattle.journal_core.specs.declared.acts.Act.{Act}
-use Rattle.journal_core.specs.declared.acts.Reply.{Reply}
-use Rattle.device_plain.specs.device_rules.specs.Legal.{right_answer}
-use Rattle.device_plain.specs.Lives.{ByEveryLife, Living, payload_length}
-use Rattle.dcd_c.specs.Sessions.{IsIdle, Steps}
-use Rattle.dcd_c.specs.declared.sessions.Session.{Session}
-use Rattle.dcd_c.specs.declared.faults.Fault.{Fault}
+use Rattle.journal_core.specs.declared.acts.{Act.Act, Reply.Reply}
+use Rattle.device_plain.specs.{device_rules.specs.Legal.right_answer, Lives.ByEveryLife, Lives.Living, Lives.payload_length}
+use Rattle.dcd_c.specs.{Sessions.IsIdle, Sessions.Steps, declared.sessions.Session.Session, declared.faults.Fault.Fault}
 
 -- What reading a message answers: the request that the bytes are, or why they are none.
 abbrev pub IsMessageRead : List ℕ → Result Request Fault → Type 0

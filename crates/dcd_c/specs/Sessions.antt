@@ -1,8 +1,7 @@
 -- A device with what its last step changed, and what one step does to both.
 use Rattle.std.specs.Prelude.{◌≡◌, []}
 use Rattle.dcd_base.specs.declared.steps.Actor.{Actor}
-use Rattle.journal_core.specs.declared.acts.Act.{Act}
-use Rattle.journal_core.specs.declared.acts.Reply.{Reply}
+use Rattle.journal_core.specs.declared.acts.{Act.Act, Reply.Reply}
 use Rattle.device_plain.specs.Lives.{Changes, TakesStep}
 use Rattle.dcd_c.specs.declared.sessions.Session.{Session}
 

@@ -1,8 +1,6 @@
 -- Why a head is refused, in words.
 use Rattle.std.specs.Prelude.{◌≡◌, ℕ, ◌==◌, if◌then◌else◌, List, [], ◌++◌, codes, decimal, Result, Err}
-use Rattle.dcd_c.specs.Words.{PutsName}
-use Rattle.dcd_c.specs.declared.faults.Fault.{Fault}
-use Rattle.dcd_c.specs.declared.head_faults.HeadFault.{HeadFault}
+use Rattle.dcd_c.specs.{Words.PutsName, declared.faults.Fault.Fault, declared.head_faults.HeadFault.HeadFault}
 
 abbrev pub region_words : ℕ → List ℕ
 region_words region = codes "region " ++ decimal region ++ codes " "

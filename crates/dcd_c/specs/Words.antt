@@ -1,7 +1,6 @@
 -- The names of statuses, of return codes and of the faults of heads by their numbers; a number without one has no bytes.
 use Rattle.std.specs.Prelude.{◌≡◌, ℕ, suc, ◌≤◌, ◌==◌, if◌then◌else◌, List, [], ◌∷◌, ◌++◌, codes, drop, length, Result, Ok, Err}
-use Rattle.dcd_codes.specs.Names.{name_of}
-use Rattle.dcd_codes.specs.declared.codes.Code.{Code}
+use Rattle.dcd_codes.specs.{Names.name_of, declared.codes.Code.Code}
 use Rattle.dcd_c.specs.declared.faults.Fault.{Fault}
 
 unfoldable pub status_word : ℕ → List ℕ

@@ -1,8 +1,7 @@
 -- A row over a list, member by member.
 use Rattle.std.proofs.Common.{◌≡◌, ℕ, ◌+◌, ◌<◌, List, [], ◌∷◌, ◌++◌, length, take, drop, get_or, Option, Some, None, refl, sym, ap, ◌∙◌, append-nil, append_assoc}
 use Rattle.std.proofs.lemmas.List.{take_more, take-append-drop, drop_more}
-use Rattle.dcd_codes.specs.declared.rules.Rule.{Rule}
-use Rattle.dcd_codes.specs.Rules.{first_by, each_in}
+use Rattle.dcd_codes.specs.{declared.rules.Rule.Rule, Rules.first_by, Rules.each_in}
 use Rattle.dcd_base.specs.Words.{◌or◌}
 
 or_assoc : (a b c : Option Rule) → (a or (b or c)) ≡ (a or b or c)

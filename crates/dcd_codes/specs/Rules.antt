@@ -1,11 +1,8 @@
 -- The code of each rule, and how a row of rules is read.
 use Rattle.dcd_base.specs.Words.{◌or◌}
-use Rattle.std.specs.declared.result.Result.{Result}
-use Rattle.std.specs.declared.result.Result.TheVariants.{Ok, Err}
+use Rattle.std.specs.declared.result.Result.{Result, TheVariants.Ok, TheVariants.Err}
 use Rattle.std.specs.Prelude.{◌≡◌, ℕ, Bool, List, [], ◌∷◌, ◌++◌, Option, Some, None, if◌then◌else◌}
-use Rattle.dcd_codes.specs.declared.codes.Code.{Code}
-use Rattle.dcd_codes.specs.declared.refusals.Refusal.{Refusal}
-use Rattle.dcd_codes.specs.declared.rules.Rule.{Rule}
+use Rattle.dcd_codes.specs.declared.{codes.Code.Code, refusals.Refusal.Refusal, rules.Rule.Rule}
 
 -- This rule, where the test says that it is broken.
 infix 12 ◌breaks◌

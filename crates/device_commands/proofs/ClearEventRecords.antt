@@ -1,15 +1,11 @@
 -- What clears a log clears its history.
 use Rattle.std.proofs.Common.{◌≡◌, ℕ, Bool, true, false, List, sym, subst}
-use Rattle.cci_codec.specs.dcd_base.specs.declared.steps.LogId.{LogId}
 use Rattle.std.specs.declared.result.Result.{Result}
-use Rattle.extent_list.specs.dcd_codes.specs.declared.refusals.Refusal.{Refusal}
-use Rattle.extent_list.specs.dcd_codes.specs.Rules.{ByRow}
-use Rattle.event_log.specs.Logs.{Log, places_in, state_of, IsLogOf}
-use Rattle.event_log.specs.LogStates.{LogState}
+use Rattle.cci_codec.specs.dcd_base.specs.declared.steps.LogId.{LogId}
+use Rattle.extent_list.specs.dcd_codes.specs.{declared.refusals.Refusal.Refusal, Rules.ByRow}
+use Rattle.event_log.specs.{Logs.Log, Logs.places_in, Logs.state_of, Logs.IsLogOf, LogStates.LogState}
 use Rattle.device_rules.specs.EventCommands.{clear_outcome, clear_rule}
-use Rattle.device_commands.specs.ClearEventRecords.{clearing_outcome, clearing_rule}
-use Rattle.device_commands.specs.Drafts.{IsOutcome}
-use Rattle.device_commands.specs.declared.draft.Draft.{Draft}
+use Rattle.device_commands.specs.{ClearEventRecords.clearing_outcome, ClearEventRecords.clearing_rule, Drafts.IsOutcome, declared.draft.Draft.Draft}
 
 -- what clears the log of dynamic capacity, whose number is 4, clears its history
 pub clears : (l : LogId) (number : ℕ) (own : Log) (log : LogState) (all : Bool) (handles : List ℕ) (r : Result Draft Refusal) → number ≡ 4 → IsLogOf l own log

@@ -2,17 +2,12 @@
 use Rattle.std.proofs.Common.{◌≡◌, ℕ, ◌<◌, ◌≤◌, Some, None, length, refl, ap, ◌∙◌}
 use Rattle.std.proofs.lemmas.Bool.{le-leb, lt-leb}
 use Rattle.cci_codec.specs.dcd_base.specs.declared.ids.HostId.{HostId}
-use Rattle.extent_list.specs.dcd_codes.specs.declared.rules.Rule.{Rule}
+use Rattle.extent_list.specs.{dcd_codes.specs.declared.rules.Rule.Rule, media_map.specs.region_config.proofs.PresentBlocks.region_spec-with_blocks}
+use Rattle.extent_list.specs.media_map.specs.region_config.specs.{Configurations.Configuration, Granules.base_of, Granules.region_spec, Granules.with_blocks}
 use Rattle.extent_list.specs.media_map.specs.region_config.specs.declared.region_spec.RegionSpec.{RegionSpec}
-use Rattle.extent_list.specs.media_map.specs.region_config.specs.Configurations.{Configuration}
-use Rattle.extent_list.specs.media_map.specs.region_config.specs.Granules.{base_of, region_spec, with_blocks}
-use Rattle.extent_list.specs.media_map.specs.region_config.proofs.PresentBlocks.{region_spec-with_blocks}
 use Rattle.host_payloads.specs.declared.views.RegionView.{RegionView}
-use Rattle.device_rules.specs.Settings.{no_such_region, region_seen}
-use Rattle.device_rules.specs.Views.{View}
-use Rattle.device_rules.proofs.Homes.{base_same}
-use Rattle.device_commands.specs.declared.pages.Flags.{Flags}
-use Rattle.device_commands.specs.ShownFlags.{flags_of}
+use Rattle.device_rules.{specs.Settings.no_such_region, specs.Settings.region_seen, specs.Views.View, proofs.Homes.base_same}
+use Rattle.device_commands.specs.{declared.pages.Flags.Flags, ShownFlags.flags_of}
 
 -- a region as a configuration alone shows it
 abbrev pub shown : Configuration → HostId → Flags → ℕ → RegionView

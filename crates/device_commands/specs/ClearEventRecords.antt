@@ -1,17 +1,12 @@
 -- Why a log is not cleared, and what clearing it changes, by what the log is.
 use Rattle.std.specs.Prelude.{ℕ, Bool, true, false, ◌==◌, List, [], ◌∷◌, ◌++◌, Option, Some, None, if◌then◌else◌, length, option_map}
 use Rattle.cci_codec.specs.dcd_base.specs.declared.steps.LogId.{LogId}
-use Rattle.extent_list.specs.dcd_codes.specs.declared.rules.Rule.{Rule}
-use Rattle.extent_list.specs.dcd_codes.specs.Rules.{◌breaks◌, ByRow}
-use Rattle.event_log.specs.LogStates.{LogState, clear_fault}
+use Rattle.extent_list.specs.dcd_codes.specs.{declared.rules.Rule.Rule, Rules.◌breaks◌, Rules.ByRow, declared.refusals.Refusal.Refusal}
+use Rattle.event_log.specs.{LogStates.LogState, LogStates.clear_fault, Logs.Log, Logs.IsLogOf}
 use Rattle.journal_core.specs.declared.outcome.Effect.{Effect}
-use Rattle.device_rules.specs.EventCommands.{cleared, rule_of, clear_outcome, clear_rule}
-use Rattle.device_rules.specs.Outcomes.{Outcome}
+use Rattle.device_rules.specs.{EventCommands.cleared, EventCommands.rule_of, EventCommands.clear_outcome, EventCommands.clear_rule, Outcomes.Outcome}
 use Rattle.std.specs.declared.result.Result.{Result}
-use Rattle.extent_list.specs.dcd_codes.specs.declared.refusals.Refusal.{Refusal}
-use Rattle.event_log.specs.Logs.{Log, IsLogOf}
-use Rattle.device_commands.specs.Drafts.{IsOutcome}
-use Rattle.device_commands.specs.declared.draft.Draft.{Draft}
+use Rattle.device_commands.specs.{Drafts.IsOutcome, declared.draft.Draft.Draft}
 
 -- a log is cleared whole only where it missed a record
 abbrev pub whole_rule : LogState → Option Rule

@@ -1,16 +1,10 @@
 -- What a draft is: the outcome of a command.
 use Rattle.std.specs.Prelude.{◌≡◌, ◌<◌, All, List, [], ◌∷◌, false, map}
-use Rattle.cci_codec.specs.dcd_base.specs.declared.ids.HostId.{HostId}
-use Rattle.cci_codec.specs.dcd_base.specs.declared.steps.LogId.{LogId}
-use Rattle.event_records.specs.declared.events.Event.{Event}
-use Rattle.event_records.specs.declared.events.EventKind.{EventKind}
-use Rattle.extent_list.specs.media_map.specs.region_config.specs.Configurations.{Configuration}
-use Rattle.extent_list.specs.HostLists.{Lists}
-use Rattle.device_rules.specs.Outcomes.{Outcome, no_extent, record_for, records_of_extents}
-use Rattle.device_rules.specs.Views.{View, view_after}
-use Rattle.device_commands.specs.declared.draft.Draft.{Draft}
-use Rattle.device_commands.specs.declared.log_records.LogRecords.{LogRecords}
-use Rattle.device_commands.specs.declared.log_records.Told.{Told}
+use Rattle.cci_codec.specs.dcd_base.specs.declared.{ids.HostId.HostId, steps.LogId.LogId}
+use Rattle.event_records.specs.declared.events.{Event.Event, EventKind.EventKind}
+use Rattle.extent_list.specs.{media_map.specs.region_config.specs.Configurations.Configuration, HostLists.Lists}
+use Rattle.device_rules.specs.{Outcomes.Outcome, Outcomes.no_extent, Outcomes.record_for, Outcomes.records_of_extents, Views.View, Views.view_after}
+use Rattle.device_commands.specs.declared.{draft.Draft.Draft, log_records.LogRecords.LogRecords, log_records.Told.Told}
 
 -- what is told of a host that has this view: of each extent, or of a region
 abbrev pub told_by : HostId → View → Told → List Event

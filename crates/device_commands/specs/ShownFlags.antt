@@ -1,13 +1,10 @@
 -- Which flags of a region are shown.
 use Rattle.std.specs.Prelude.{ℕ, ◌≡◌, List, map}
-use Rattle.extent_list.specs.media_map.specs.region_config.specs.declared.region_spec.RegionSpec.{RegionSpec}
-use Rattle.device_rules.specs.Settings.{host_flags, manager_flags, page, region_seen}
+use Rattle.extent_list.specs.media_map.specs.region_config.specs.{declared.region_spec.RegionSpec.RegionSpec, Configurations.Configuration, Granules.regions_of, Granules.with_blocks}
+use Rattle.device_rules.specs.{Settings.host_flags, Settings.manager_flags, Settings.page, Settings.region_seen, Views.View}
 use Rattle.device_commands.specs.declared.pages.Flags.{Flags}
 use Rattle.cci_codec.specs.dcd_base.specs.declared.ids.HostId.{HostId}
 use Rattle.host_payloads.specs.declared.views.RegionView.{RegionView}
-use Rattle.extent_list.specs.media_map.specs.region_config.specs.Configurations.{Configuration}
-use Rattle.extent_list.specs.media_map.specs.region_config.specs.Granules.{regions_of, with_blocks}
-use Rattle.device_rules.specs.Views.{View}
 
 abbrev pub flags_of : Flags → RegionSpec → ℕ
 flags_of Flags.OfHost spec = host_flags spec

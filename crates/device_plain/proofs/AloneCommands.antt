@@ -1,35 +1,19 @@
 -- A command of the host of a device that has it alone: what is kept is what the host sees after it.
 use Rattle.std.proofs.Common.{◌≡◌, ℕ, Bool, true, false, List, [], ◌∷◌, Result, Ok, Err, refl, sym, ap, subst, ◌∙◌}
-use Rattle.std.specs.Prelude.{◌==◌, IfOk, OnOk, fold, if◌then◌else◌}
-use Rattle.std.specs.List.{list_any}
+use Rattle.std.specs.{Prelude.◌==◌, Prelude.IfOk, Prelude.OnOk, Prelude.fold, Prelude.if◌then◌else◌, List.list_any}
 use Rattle.cci_codec.specs.declared.messages.Request.{Request}
-use Rattle.dcd_base.specs.declared.capacity.Extent.{Extent}
-use Rattle.dcd_base.specs.declared.ids.HostId.{HostId}
-use Rattle.dcd_base.specs.declared.steps.LogId.{LogId}
-use Rattle.extent_list.specs.dcd_codes.specs.Rules.{code_of}
-use Rattle.extent_list.specs.dcd_codes.specs.declared.codes.Code.{Code}
-use Rattle.extent_list.specs.dcd_codes.specs.declared.rules.Rule.{Rule}
-use Rattle.control_core.specs.host_commands.specs.HostMessages.{IsDraft}
-use Rattle.event_log.specs.Logs.{IsLogOf}
-use Rattle.control_core.specs.device_commands.specs.declared.draft.Draft.{Draft}
-use Rattle.control_core.specs.device_state.specs.EnteredLists.{counted, lists_by}
-use Rattle.extent_list.specs.HostLists.{Lists}
-use Rattle.control_core.specs.device_state.proofs.Keeping.{lists_right}
-use Rattle.journal_core.specs.declared.acts.Act.{Act}
-use Rattle.journal_core.specs.declared.acts.Reply.{Reply}
-use Rattle.journal_core.specs.declared.outcome.HeldKind.{HeldKind}
-use Rattle.region_config.specs.Configurations.{Configuration}
+use Rattle.dcd_base.specs.declared.{capacity.Extent.Extent, ids.HostId.HostId, steps.LogId.LogId}
+use Rattle.extent_list.specs.{dcd_codes.specs.Rules.code_of, dcd_codes.specs.declared.codes.Code.Code, dcd_codes.specs.declared.rules.Rule.Rule, HostLists.Lists}
+use Rattle.control_core.specs.{device_commands.specs.declared.draft.Draft.Draft, device_rules.proofs.ViewCommands.after_refusal, device_rules.proofs.ViewCommands.view_after-dropped}
 use Rattle.control_core.specs.device_rules.specs.Answers.{dropped, host_outcome, host_result, host_result_in, reply_with, response, unless}
-use Rattle.control_core.specs.device_rules.specs.Outcomes.{Outcome}
-use Rattle.control_core.specs.device_rules.specs.ResponseOutcomes.{unhold}
-use Rattle.control_core.specs.device_rules.specs.Views.{View, view_after}
-use Rattle.control_core.specs.device_rules.proofs.ViewCommands.{after_refusal, view_after-dropped}
-use Rattle.device_plain.specs.Acting.{ChangesAlone, without_held}
-use Rattle.device_plain.specs.Alone.{DoesAlone, IsAlone}
-use Rattle.isolation_laws.specs.Solo.{accepts_byte, changes_with}
-use Rattle.device_plain.specs.declared.alone.Alone.{Alone}
-use Rattle.isolation_laws.specs.declared.items.SoloReply.{SoloReply}
+use Rattle.control_core.specs.device_rules.specs.{Outcomes.Outcome, ResponseOutcomes.unhold, Views.View, Views.view_after}
+use Rattle.control_core.specs.{device_state.proofs.Keeping.lists_right, device_state.specs.EnteredLists.counted, device_state.specs.EnteredLists.lists_by, host_commands.specs.HostMessages.IsDraft}
+use Rattle.event_log.specs.Logs.{IsLogOf}
+use Rattle.journal_core.specs.declared.{acts.Act.Act, acts.Reply.Reply, outcome.HeldKind.HeldKind}
+use Rattle.region_config.specs.Configurations.{Configuration}
 use Rattle.device_plain.proofs.OwnChanges.{blocks_stay, history_after, log_stays, own_changes}
+use Rattle.device_plain.specs.{Acting.ChangesAlone, Acting.without_held, Alone.DoesAlone, Alone.IsAlone, declared.alone.Alone.Alone}
+use Rattle.isolation_laws.specs.{Solo.accepts_byte, Solo.changes_with, declared.items.SoloReply.SoloReply}
 
 module _ (c : Configuration) (h : HostId) (q : Request) (old new : Alone) where
   abbrev Did : View → (ℕ → ℕ) → Reply → Result Outcome Rule → Type 0

@@ -1,22 +1,13 @@
 -- What a device with one host alone replies, item by item.
 use Rattle.std.proofs.Common.{◌≡◌, ℕ, List, [], ◌∷◌, ◌++◌, refl, sym, ap, ◌∙◌, subst, append-nil, append_assoc}
-use Rattle.std.specs.Prelude.{fold}
-use Rattle.std.specs.declared.result.Result.{Result}
-use Rattle.std.specs.declared.result.Result.TheVariants.{Ok, Err}
-use Rattle.std.proofs.lemmas.List.Sums.{fold_push}
-use Rattle.dcd_base.specs.declared.failures.AccessFault.{AccessFault}
-use Rattle.dcd_base.specs.declared.ids.HostId.{HostId}
-use Rattle.dcd_base.specs.declared.media.Place.{Place}
+use Rattle.std.{specs.Prelude.fold, specs.declared.result.Result.Result, specs.declared.result.Result.TheVariants.Ok, specs.declared.result.Result.TheVariants.Err, proofs.lemmas.List.Sums.fold_push}
+use Rattle.dcd_base.specs.declared.{failures.AccessFault.AccessFault, ids.HostId.HostId, media.Place.Place}
 use Rattle.control_core.specs.device_rules.specs.Views.{View, first_view}
 use Rattle.journal_core.specs.declared.acts.Act.{Act}
 use Rattle.media_map.specs.Places.{locate}
 use Rattle.region_config.specs.Configurations.{Configuration}
-use Rattle.device_plain.specs.Alone.{IsAlone, access_in, replies_after, reply_in, solo_replies}
-use Rattle.isolation_laws.specs.Solo.{solo, solo_access, solo_after, solo_view, solo_word, solo_word_after}
-use Rattle.device_plain.specs.Telling.{replies_to}
-use Rattle.device_plain.specs.declared.alone.Alone.{Alone}
-use Rattle.isolation_laws.specs.declared.items.Item.{Item}
-use Rattle.isolation_laws.specs.declared.items.SoloReply.{SoloReply}
+use Rattle.device_plain.specs.{Alone.IsAlone, Alone.access_in, Alone.replies_after, Alone.reply_in, Alone.solo_replies, Telling.replies_to, declared.alone.Alone.Alone}
+use Rattle.isolation_laws.specs.{Solo.solo, Solo.solo_access, Solo.solo_after, Solo.solo_view, Solo.solo_word, Solo.solo_word_after, declared.items.Item.Item, declared.items.SoloReply.SoloReply}
 
 module _ (c : Configuration) (h : HostId) where
   -- ---- the view and the words after one more item

@@ -1,17 +1,11 @@
 -- What an offer and a removal by force make of the lists of a device with one host alone.
 use Rattle.std.proofs.Common.{◌≡◌, ℕ, ◌+◌, ◌<◌, ◌≤◌, List, [], ◌∷◌, ◌++◌, length, ap, ◌∙◌, arith}
-use Rattle.std.specs.Prelude.{◌^◌}
-use Rattle.std.proofs.Math.Nat.{mod-add-mod}
-use Rattle.std.proofs.lemmas.List.Sums.{sum_by_push}
-use Rattle.dcd_base.specs.declared.capacity.Extent.{Extent}
-use Rattle.dcd_base.specs.declared.ids.HostId.{HostId}
+use Rattle.std.{specs.Prelude.◌^◌, proofs.Math.Nat.mod-add-mod, proofs.lemmas.List.Sums.sum_by_push}
+use Rattle.dcd_base.specs.declared.{capacity.Extent.Extent, ids.HostId.HostId}
 use Rattle.control_core.specs.device_rules.specs.Views.{View, extents_in, lists_in}
-use Rattle.extent_list.specs.ExtentLists.{count_in, cut_all}
-use Rattle.extent_list.specs.HostLists.{Lists, extent_total, next_generation}
+use Rattle.extent_list.specs.{ExtentLists.count_in, ExtentLists.cut_all, HostLists.Lists, HostLists.extent_total, HostLists.next_generation}
 use Rattle.region_config.specs.Configurations.{Configuration}
-use Rattle.device_plain.specs.Alone.{IsAlone}
-use Rattle.device_plain.specs.declared.alone.Alone.{Alone}
-use Rattle.device_plain.proofs.ToldAlone.{view_total}
+use Rattle.device_plain.{specs.Alone.IsAlone, specs.declared.alone.Alone.Alone, proofs.ToldAlone.view_total}
 
 -- ---- an offer
 

@@ -1,40 +1,21 @@
 -- What every device keeps is kept by one more entry.
 use Rattle.std.proofs.Common.{◌≡◌, ℕ, ◌+◌, ◌<◌, true, false, leb, ◌&&◌, ◌==◌, List, [], ◌∷◌, ◌++◌, length, refl, sym, ap, subst, ◌∙◌, append-nil, add-zero, arith}
-use Rattle.std.specs.Prelude.{All, IfOk, IsFalse, IsTrue, fold, if◌then◌else◌, not}
-use Rattle.std.specs.List.{filter, list_any}
-use Rattle.std.specs.declared.result.Result.{Result}
+use Rattle.std.proofs.lemmas.{Bool.and_from, Bool.eq-eqb, Bool.le-leb, Bool.lt-ltb, List.length-append, List.Elements.All-nil, List.Elements.All-push, List.Elements.All-weaker, List.Sums.fold_push}
+use Rattle.std.specs.{List.filter, List.list_any, Prelude.All, Prelude.IfOk, Prelude.IsFalse, Prelude.IsTrue, Prelude.fold, Prelude.if◌then◌else◌, Prelude.not, declared.result.Result.Result}
 use Rattle.std.specs.declared.result.Result.TheVariants.{Ok, Err}
-use Rattle.std.proofs.lemmas.Bool.{and_from, eq-eqb, le-leb, lt-ltb}
-use Rattle.std.proofs.lemmas.List.{length-append}
-use Rattle.std.proofs.lemmas.List.Elements.{All-nil, All-push, All-weaker}
-use Rattle.std.proofs.lemmas.List.Sums.{fold_push}
-use Rattle.dcd_base.specs.declared.failures.AccessFault.{AccessFault}
-use Rattle.dcd_base.specs.declared.ids.HostId.{HostId}
-use Rattle.dcd_base.specs.declared.media.Place.{Place}
-use Rattle.dcd_base.specs.declared.steps.Actor.{Actor}
-use Rattle.dcd_base.specs.declared.steps.Stamp.{Stamp}
+use Rattle.dcd_base.specs.declared.{failures.AccessFault.AccessFault, ids.HostId.HostId, media.Place.Place, steps.Actor.Actor, steps.Stamp.Stamp}
 use Rattle.granule_mem.specs.Contents.{AreZero, word_kept}
-use Rattle.journal_core.specs.declared.acts.Act.{Act}
+use Rattle.journal_core.proofs.{EachSteps.Each-push, JournalSteps.Numbered-push, JournalSteps.commands_in-push, JournalSteps.effects-push}
+use Rattle.journal_core.specs.{Accesses.access_entry, Accesses.load_said, Entries.effects, Entries.is_control, Merging.commands_in, Merging.is_later, declared.acts.Act.Act}
 use Rattle.journal_core.specs.declared.entries.Entry.{Entry}
-use Rattle.journal_core.specs.Entries.{effects, is_control}
-use Rattle.journal_core.specs.Merging.{commands_in, is_later}
-use Rattle.journal_core.proofs.EachSteps.{Each-push}
-use Rattle.journal_core.proofs.JournalSteps.{Numbered-push, commands_in-push, effects-push}
 use Rattle.media_map.specs.Places.{locate}
-use Rattle.region_config.specs.Configurations.{Configuration}
-use Rattle.region_config.specs.Granules.{granule_total}
-use Rattle.region_config.specs.Soundness.{IsSound}
-use Rattle.control_core.specs.device_rules.specs.Hosts.{changes_of, moves}
+use Rattle.region_config.specs.{Configurations.Configuration, Granules.granule_total, Soundness.IsSound}
+use Rattle.control_core.specs.{Deciding.IsShort, Steps.MayStep, Steps.journal_entry, device_rules.proofs.Answered.answer_same, device_rules.specs.Hosts.changes_of, device_rules.specs.Hosts.moves}
 use Rattle.control_core.specs.device_rules.specs.Legal.{Meets, word_by}
-use Rattle.control_core.specs.Deciding.{IsShort}
-use Rattle.control_core.specs.Steps.{MayStep, journal_entry}
-use Rattle.journal_core.specs.Accesses.{access_entry, load_said}
-use Rattle.device_plain.specs.Accesses.{AreZeroed, Stored, StoresAt, granted_place, store_said, word_from}
-use Rattle.device_plain.specs.Keeping.{Keeps}
 use Rattle.device_plain.proofs.MemorySteps.{effects_stay, load_right, store_right, words_stored, words_zeroed, written}
-use Rattle.device_plain.specs.Numbering.{IsCounted, IsReachedBy, accesses_of}
-use Rattle.control_core.specs.device_rules.proofs.Answered.{answer_same}
 use Rattle.device_plain.proofs.Numbered.{accesses-push, before_access, before_command, commands-push, reached_access, reached_command, since-push}
+use Rattle.device_plain.specs.{Accesses.AreZeroed, Accesses.Stored, Accesses.StoresAt, Accesses.granted_place, Accesses.store_said, Accesses.word_from, Keeping.Keeps}
+use Rattle.device_plain.specs.Numbering.{IsCounted, IsReachedBy, accesses_of}
 
 never : IsTrue false → ⊥
 never e = cc

@@ -1,13 +1,8 @@
 -- The words that stay where some are let go.
 use Rattle.std.proofs.Common.{◌≡◌, ℕ, Bool, true, false, List, None, filter, cond, refl, sym, ap, ◌∙◌}
+use Rattle.std.{proofs.lemmas.Bool.eqb-true, proofs.lemmas.Map.Entries.lookup-filter-keys, specs.BTreeMap.is_at, specs.Map.lookup, specs.Ordering.nat_cmp}
 use Rattle.std.specs.Prelude.{not, unwrap_or, if◌then◌else◌}
-use Rattle.std.specs.BTreeMap.{is_at}
-use Rattle.std.specs.Map.{lookup}
-use Rattle.std.specs.Ordering.{nat_cmp}
-use Rattle.std.proofs.lemmas.Bool.{eqb-true}
-use Rattle.std.proofs.lemmas.Map.Entries.{lookup-filter-keys}
-use Rattle.granule_mem.specs.Contents.{word_among}
-use Rattle.granule_mem.proofs.Few.{is_at_number}
+use Rattle.granule_mem.{specs.Contents.word_among, proofs.Few.is_at_number}
 
 -- the word at an address, where the words at some addresses are let go
 pub word_filter : (gone : ℕ → Bool) (stored : List (ℕ × ℕ)) (d : ℕ) → word_among (filter (λ e. not (gone e.0)) stored) d ≡ (if gone d then 0 else word_among stored d)

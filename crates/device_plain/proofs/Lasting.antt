@@ -1,22 +1,13 @@
 -- What is kept stays what a journal says: with an entry that has no effects, and whatever room there is for tags.
 use Rattle.std.proofs.Common.{◌≡◌, List, [], ◌∷◌, ◌++◌, sym, ap, subst, ◌∙◌}
-use Rattle.dcd_base.specs.declared.ids.HostId.{HostId}
-use Rattle.dcd_base.specs.declared.steps.LogId.{LogId}
+use Rattle.dcd_base.specs.declared.{ids.HostId.HostId, steps.LogId.LogId}
 use Rattle.region_config.specs.Configurations.{Configuration}
 use Rattle.granule_map.specs.Tables.{cell_at}
-use Rattle.journal_core.specs.Entries.{effects}
-use Rattle.journal_core.specs.Holders.{holds}
-use Rattle.journal_core.specs.declared.entries.Entry.{Entry}
-use Rattle.journal_core.specs.declared.outcome.Effect.{Effect}
-use Rattle.control_core.specs.device_rules.specs.GranuleCells.{IsCell}
-use Rattle.control_core.specs.device_rules.specs.TagTable.{IsTable}
-use Rattle.control_core.specs.device_rules.specs.Adding.{present}
-use Rattle.control_core.specs.device_rules.specs.Logs.{log_of}
+use Rattle.journal_core.specs.{Entries.effects, Holders.holds, declared.entries.Entry.Entry, declared.outcome.Effect.Effect}
+use Rattle.control_core.specs.device_rules.{proofs.ViewSteps.view_of-push, specs.Adding.present, specs.GranuleCells.IsCell, specs.Logs.log_of, specs.TagTable.IsTable}
 use Rattle.control_core.specs.device_rules.specs.Views.{View, view_after, view_of}
-use Rattle.control_core.specs.device_rules.proofs.ViewSteps.{view_of-push}
-use Rattle.control_core.specs.device_state.specs.StateAfter.{IsPart, IsStateAfter, part_of}
+use Rattle.control_core.specs.device_state.specs.{StateAfter.IsPart, StateAfter.IsStateAfter, StateAfter.part_of, declared.state.State.State}
 use Rattle.event_log.specs.Logs.{IsLogOf}
-use Rattle.control_core.specs.device_state.specs.declared.state.State.{State}
 use Rattle.tag_refs.specs.declared.entries.TagEntry.{TagEntry}
 use Rattle.device_plain.proofs.MemorySteps.{effects_stay}
 

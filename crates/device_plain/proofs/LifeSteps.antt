@@ -1,35 +1,20 @@
 -- Each journal that leads to a device leads on with one more entry.
 use Rattle.std.proofs.Common.{◌≡◌, ℕ, ◌<◌, false, List, [], ◌∷◌, ◌++◌, refl, sym, ap, subst, ◌∙◌, length}
-use Rattle.std.specs.Prelude.{IsTrue}
-use Rattle.dcd_base.specs.declared.ids.HostId.{HostId}
-use Rattle.dcd_base.specs.declared.failures.AccessFault.{AccessFault}
-use Rattle.dcd_base.specs.declared.media.Place.{Place}
-use Rattle.dcd_base.specs.declared.steps.Actor.{Actor}
+use Rattle.std.specs.{Prelude.IsTrue, declared.result.Result.Result, declared.result.Result.TheVariants.Ok, declared.result.Result.TheVariants.Err}
+use Rattle.dcd_base.specs.declared.{ids.HostId.HostId, failures.AccessFault.AccessFault, media.Place.Place, steps.Actor.Actor}
 use Rattle.granule_mem.specs.Contents.{AreZero, word_kept}
-use Rattle.journal_core.specs.Entries.{effects, fits, is_control}
-use Rattle.journal_core.specs.declared.acts.Act.{Act}
-use Rattle.journal_core.specs.declared.entries.Entry.{Entry}
+use Rattle.journal_core.{proofs.EachSteps.Each-push, specs.Entries.effects, specs.Entries.fits, specs.Entries.is_control, specs.declared.acts.Act.Act, specs.declared.entries.Entry.Entry}
 use Rattle.journal_core.specs.declared.outcome.Effect.{Effect}
-use Rattle.journal_core.proofs.EachSteps.{Each-push}
 use Rattle.media_map.specs.Places.{locate}
-use Rattle.region_config.specs.Configurations.{Configuration}
-use Rattle.region_config.specs.Granules.{granule_total}
+use Rattle.region_config.specs.{Configurations.Configuration, Granules.granule_total}
 use Rattle.fm_payloads.specs.ManagerPayloads.{manager_request}
-use Rattle.control_core.specs.device_rules.specs.Answers.{answer, host_result_in, manager_result, reply_with}
-use Rattle.control_core.specs.device_rules.specs.Views.{view_of}
-use Rattle.std.specs.declared.result.Result.{Result}
-use Rattle.std.specs.declared.result.Result.TheVariants.{Ok, Err}
-use Rattle.control_core.specs.device_rules.specs.Legal.{Meets, right_answer, word_by}
+use Rattle.control_core.{proofs.NextEntry.next_meets, specs.Deciding.IsDecidedBy, specs.Pasts.EntersStep, specs.Pasts.IsOfStep, specs.Pasts.IsPast, specs.Pasts.LiveControlled}
+use Rattle.control_core.specs.{Steps.MayStep, Steps.journal_entry, declared.decided.Decided.Decided}
+use Rattle.control_core.specs.device_rules.specs.{Answers.answer, Answers.host_result_in, Answers.manager_result, Answers.reply_with, Legal.Meets, Legal.right_answer, Legal.word_by, Views.view_of}
 use Rattle.control_core.specs.device_state.specs.declared.state.State.{State}
-use Rattle.control_core.specs.Deciding.{IsDecidedBy}
-use Rattle.control_core.specs.Pasts.{EntersStep, IsOfStep, IsPast, LiveControlled}
-use Rattle.control_core.specs.Steps.{MayStep, journal_entry}
-use Rattle.control_core.specs.declared.decided.Decided.{Decided}
-use Rattle.control_core.proofs.NextEntry.{next_meets}
+use Rattle.device_plain.proofs.{Lasting.state_stays, Lasting.state_with_room, MemorySteps.HasWords, MemorySteps.store_right, MemorySteps.words_stored, MemorySteps.words_zeroed, MemorySteps.written}
 use Rattle.device_plain.specs.Accesses.{AreZeroed, Stored, StoresAt, granted_place, store_said}
 use Rattle.device_plain.specs.Lives.{ByEveryLife, CanTake, IsAlive, IsLife, IsReplyTo, IsWhole, Living, LivesOn, living, without_spare}
-use Rattle.device_plain.proofs.Lasting.{state_stays, state_with_room}
-use Rattle.device_plain.proofs.MemorySteps.{HasWords, store_right, words_stored, words_zeroed, written}
 
 never : IsTrue false → ⊥
 never e = cc

@@ -1,10 +1,8 @@
 -- Records that are put into a log one by one.
 use Rattle.std.proofs.Common.{◌≡◌, ◌+◌, List, [], ◌∷◌, length, refl, sym, ap, ◌∙◌, arith}
-use Rattle.std.specs.Prelude.{fold}
-use Rattle.std.proofs.lemmas.List.{length_push}
+use Rattle.std.{specs.Prelude.fold, proofs.lemmas.List.length_push}
 use Rattle.dcd_base.specs.declared.steps.LogId.{LogId}
-use Rattle.event_log.proofs.Histories.{follows, stays}
-use Rattle.event_log.specs.LogStates.{LogState, with_record}
+use Rattle.event_log.{proofs.Histories.follows, proofs.Histories.stays, specs.LogStates.LogState, specs.LogStates.with_record}
 use Rattle.event_log.specs.Logs.{Log, logged, places_in, recorded, IsLogOf}
 use Rattle.event_records.specs.declared.events.Event.{Event}
 

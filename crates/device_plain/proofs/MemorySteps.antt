@@ -1,26 +1,13 @@
 -- The words, with one more entry.
 use Rattle.std.proofs.Common.{◌≡◌, ℕ, ◌<◌, false, List, [], ◌∷◌, ◌++◌, refl, sym, ap, ◌∙◌, append-nil}
-use Rattle.std.specs.Prelude.{IfOk, IsTrue, if◌then◌else◌, Bool, true}
-use Rattle.std.specs.List.{list_any}
-use Rattle.std.specs.declared.result.Result.{Result}
-use Rattle.std.specs.declared.result.Result.TheVariants.{Ok, Err}
-use Rattle.std.proofs.lemmas.List.Sums.{fold_push}
-use Rattle.dcd_base.specs.declared.failures.AccessFault.{AccessFault}
-use Rattle.dcd_base.specs.declared.ids.HostId.{HostId}
-use Rattle.dcd_base.specs.declared.media.Place.{Place}
-use Rattle.dcd_base.specs.declared.steps.Actor.{Actor}
+use Rattle.std.{proofs.lemmas.List.Sums.fold_push, specs.List.list_any, specs.Prelude.IfOk, specs.Prelude.IsTrue, specs.Prelude.if◌then◌else◌, specs.Prelude.Bool, specs.Prelude.true}
+use Rattle.std.specs.declared.result.Result.{Result, TheVariants.Ok, TheVariants.Err}
+use Rattle.dcd_base.specs.declared.{failures.AccessFault.AccessFault, ids.HostId.HostId, media.Place.Place, steps.Actor.Actor}
 use Rattle.granule_mem.specs.Contents.{word_kept}
-use Rattle.journal_core.specs.Accesses.{load_said}
-use Rattle.journal_core.specs.Entries.{effects, is_control}
-use Rattle.journal_core.specs.Holders.{holds}
-use Rattle.journal_core.specs.declared.acts.Act.{Act}
-use Rattle.journal_core.specs.declared.acts.Reply.{Reply}
-use Rattle.journal_core.specs.declared.entries.Entry.{Entry}
-use Rattle.journal_core.specs.declared.outcome.Effect.{Effect}
-use Rattle.journal_core.proofs.JournalSteps.{effects-push}
+use Rattle.journal_core.{proofs.JournalSteps.effects-push, specs.Accesses.load_said, specs.Entries.effects, specs.Entries.is_control, specs.Holders.holds, specs.declared.acts.Act.Act}
+use Rattle.journal_core.specs.declared.{acts.Reply.Reply, entries.Entry.Entry, outcome.Effect.Effect}
 use Rattle.media_map.specs.Places.{locate}
-use Rattle.region_config.specs.Configurations.{Configuration}
-use Rattle.region_config.specs.Granules.{granule_total}
+use Rattle.region_config.specs.{Configurations.Configuration, Granules.granule_total}
 use Rattle.control_core.specs.device_rules.specs.Legal.{access_at, granted_reply, is_zeroing, stored_at, word_after, word_by, word_of, written_by}
 use Rattle.device_plain.specs.Accesses.{AreZeroed, Stored, held_at, store_said, word_from}
 

@@ -1,31 +1,19 @@
 -- What every device keeps beside its loads and stores is kept by one more entry.
 use Rattle.std.proofs.Common.{◌≡◌, ℕ, ◌+◌, ◌<◌, ◌≤◌, true, false, not, List, [], ◌∷◌, ◌++◌, length, refl, sym, ap, subst, ◌∙◌, append-nil, arith}
+use Rattle.std.proofs.lemmas.List.{Elements.All-filter, Elements.All-weaker, Kept.AllPairs-filter}
 use Rattle.std.specs.Prelude.{All, IfOk, IsFalse, if◌then◌else◌}
-use Rattle.std.proofs.lemmas.List.Elements.{All-filter, All-weaker}
-use Rattle.std.proofs.lemmas.List.Kept.{AllPairs-filter}
-use Rattle.dcd_base.specs.declared.ids.HostId.{HostId}
-use Rattle.dcd_base.specs.declared.media.Place.{Place}
-use Rattle.dcd_base.specs.declared.steps.Actor.{Actor}
+use Rattle.dcd_base.specs.declared.{ids.HostId.HostId, media.Place.Place, steps.Actor.Actor}
 use Rattle.granule_mem.specs.Contents.{AreZero}
-use Rattle.journal_core.specs.declared.acts.Act.{Act}
+use Rattle.journal_core.proofs.{Inserting.in_order_before_none, Pushing.merged-control_last, Pushing.merged-shard_last, Pushing.merged_of_one}
+use Rattle.journal_core.specs.{Accesses.access_entry, Accesses.load_said, Entries.effects, Entries.is_control, Merging.Rising, Merging.is_later, Merging.merged, declared.acts.Act.Act}
 use Rattle.journal_core.specs.declared.entries.Entry.{Entry}
-use Rattle.journal_core.specs.Accesses.{access_entry, load_said}
-use Rattle.journal_core.specs.Entries.{effects, is_control}
-use Rattle.journal_core.specs.Merging.{Rising, is_later, merged}
-use Rattle.journal_core.proofs.Inserting.{in_order_before_none}
-use Rattle.journal_core.proofs.Pushing.{merged-control_last, merged-shard_last, merged_of_one}
 use Rattle.media_map.specs.Places.{locate}
-use Rattle.region_config.specs.Configurations.{Configuration}
-use Rattle.region_config.specs.Granules.{granule_total}
-use Rattle.region_config.specs.Soundness.{IsSound}
-use Rattle.control_core.specs.kept_journal.proofs.Pairs.{length_of_both}
-use Rattle.control_core.specs.Deciding.{IsShort}
-use Rattle.control_core.specs.Steps.{MayStep, journal_entry}
-use Rattle.device_plain.specs.Accesses.{AreZeroed, Stored, StoresAt, granted_place, store_said, word_from}
-use Rattle.device_plain.specs.Keeping.{Keeps, KeepsBoth}
-use Rattle.device_plain.specs.Numbering.{IsReachedBy, accesses_of}
+use Rattle.region_config.specs.{Configurations.Configuration, Granules.granule_total, Soundness.IsSound}
+use Rattle.control_core.specs.{kept_journal.proofs.Pairs.length_of_both, Deciding.IsShort, Steps.MayStep, Steps.journal_entry}
 use Rattle.device_plain.proofs.Keeping.{keeps_command, keeps_first, keeps_load, keeps_store}
 use Rattle.device_plain.proofs.Numbered.{accesses-push, before_access, before_command, command_behind}
+use Rattle.device_plain.specs.{Accesses.AreZeroed, Accesses.Stored, Accesses.StoresAt, Accesses.granted_place, Accesses.store_said, Accesses.word_from, Keeping.Keeps, Keeping.KeepsBoth}
+use Rattle.device_plain.specs.Numbering.{IsReachedBy, accesses_of}
 
 -- the journal has the entries of both
 pub length_of_whole : (control accesses : List Entry) → length (merged control (accesses ∷ [])) ≡ length control + length accesses

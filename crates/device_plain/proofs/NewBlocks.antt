@@ -1,23 +1,14 @@
 -- What a new block size makes of a device with one host alone.
 use Rattle.std.proofs.Common.{◌≡◌, ℕ, ◌<◌, ◌≤◌, Bool, true, false, ◌&&◌, length, Some, None, inl, inr, refl, sym, ap, ◌∙◌, arith}
-use Rattle.std.specs.Prelude.{nat_lt, ◌==◌, if◌then◌else◌}
-use Rattle.std.specs.List.{enumerate_from}
-use Rattle.std.proofs.lemmas.Bool.{cases_Bool, eq-eqb, le-ltb, lt-ltb}
-use Rattle.std.proofs.lemmas.List.{length-map}
-use Rattle.std.proofs.lemmas.List.FromFn.{length-enumerate_from}
-use Rattle.dcd_base.specs.Words.{flag_of}
-use Rattle.dcd_base.specs.declared.ids.HostId.{HostId}
+use Rattle.std.proofs.lemmas.{Bool.cases_Bool, Bool.eq-eqb, Bool.le-ltb, Bool.lt-ltb, List.length-map, List.FromFn.length-enumerate_from}
+use Rattle.std.specs.{List.enumerate_from, Prelude.nat_lt, Prelude.◌==◌, Prelude.if◌then◌else◌}
+use Rattle.dcd_base.specs.{Words.flag_of, declared.ids.HostId.HostId}
 use Rattle.control_core.specs.device_rules.specs.Views.{View}
-use Rattle.region_config.proofs.PresentBlocks.{region_spec-with_blocks, with_block-with_blocks}
-use Rattle.region_config.specs.Blocks.{block_fault, with_block}
-use Rattle.region_config.specs.Configurations.{Configuration}
-use Rattle.region_config.specs.Granules.{is_supported, region_spec, sizes_in}
-use Rattle.region_config.specs.declared.faults.BlockFault.{BlockFault}
+use Rattle.region_config.{proofs.PresentBlocks.region_spec-with_blocks, proofs.PresentBlocks.with_block-with_blocks, specs.Blocks.block_fault, specs.Blocks.with_block}
+use Rattle.region_config.specs.{Configurations.Configuration, Granules.is_supported, Granules.region_spec, Granules.sizes_in, declared.faults.BlockFault.BlockFault}
 use Rattle.region_config.specs.declared.region_spec.RegionSpec.{RegionSpec}
-use Rattle.device_plain.specs.Alone.{IsAlone}
+use Rattle.device_plain.specs.{Alone.IsAlone, Telling.resized, declared.alone.Alone.Alone}
 use Rattle.isolation_laws.specs.Solo.{block_set, with_log_records}
-use Rattle.device_plain.specs.Telling.{resized}
-use Rattle.device_plain.specs.declared.alone.Alone.{Alone}
 
 abbrev pub with_size : ℕ → ℕ → View → View
 with_size r size v = record v { block = λ s. if s == r then size else v.block s }

@@ -1,13 +1,9 @@
 -- The stamps of a journal rise as it grows.
 use Rattle.std.proofs.Common.{◌≡◌, ℕ, ◌+◌, ◌&&◌, ◌||◌, ◌==◌, true, ltb, List, [], ◌∷◌, ◌++◌, sym, ap, inl, inr, arith}
+use Rattle.std.proofs.lemmas.{Bool.and_left, Bool.and_right, Bool.cases_eq, Bool.le-ltb, Bool.lt-ltb, Bool.ne_eqb, Bool.or_from, List.Elements.filter-append, List.Sums.fold_push}
 use Rattle.std.specs.Prelude.{IsFalse, if◌then◌else◌, not}
-use Rattle.std.proofs.lemmas.Bool.{and_left, and_right, cases_eq, le-ltb, lt-ltb, ne_eqb, or_from}
-use Rattle.std.proofs.lemmas.List.Elements.{filter-append}
-use Rattle.std.proofs.lemmas.List.Sums.{fold_push}
 use Rattle.dcd_base.specs.declared.steps.Stamp.{Stamp}
-use Rattle.journal_core.specs.declared.entries.Entry.{Entry}
-use Rattle.journal_core.specs.Entries.{is_control}
-use Rattle.journal_core.specs.Merging.{is_later}
+use Rattle.journal_core.specs.{declared.entries.Entry.Entry, Entries.is_control, Merging.is_later}
 use Rattle.device_plain.specs.Numbering.{IsReachedBy, accesses_of, accesses_since, commands_of}
 
 -- the next command or scrub has a later stamp, and so has the next access

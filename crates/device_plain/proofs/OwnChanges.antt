@@ -1,30 +1,17 @@
 -- What a command of a host changes beside its lists: its log, by clearing alone, and no block size.
 use Rattle.std.proofs.Common.{◌≡◌, ℕ, Bool, true, false, List, None, refl, sym, ap, subst, ◌∙◌}
-use Rattle.std.specs.Prelude.{fold}
-use Rattle.std.specs.List.{list_all}
-use Rattle.std.proofs.lemmas.Bool.{false≢true}
-use Rattle.dcd_base.specs.declared.ids.HostId.{HostId}
-use Rattle.dcd_base.specs.declared.steps.LogId.{LogId}
-use Rattle.event_log.specs.Logs.{IsHistory, IsLogOf}
-use Rattle.event_log.specs.LogStates.{LogState}
+use Rattle.std.{specs.Prelude.fold, specs.List.list_all, proofs.lemmas.Bool.false≢true}
+use Rattle.dcd_base.specs.declared.{ids.HostId.HostId, steps.LogId.LogId}
+use Rattle.event_log.specs.{Logs.IsHistory, Logs.IsLogOf, LogStates.LogState}
 use Rattle.host_payloads.specs.declared.requests.HostRequest.{HostRequest}
 use Rattle.journal_core.specs.declared.outcome.Effect.{Effect}
-use Rattle.region_config.specs.Configurations.{Configuration}
-use Rattle.region_config.specs.Granules.{with_blocks}
-use Rattle.control_core.specs.device_rules.specs.Answers.{host_outcome, host_rule}
-use Rattle.control_core.specs.device_rules.specs.Hosts.{block_after}
-use Rattle.control_core.specs.device_rules.specs.Logs.{log_after}
-use Rattle.control_core.specs.device_rules.specs.ReleaseOutcomes.{give_back_changes}
-use Rattle.control_core.specs.device_rules.specs.ResponseOutcomes.{respond_changes}
-use Rattle.control_core.specs.device_rules.specs.Views.{View, view_after}
-use Rattle.control_core.specs.device_state.proofs.RecordSteps.{log_all}
-use Rattle.control_core.specs.device_rules.proofs.Rooms.{records_none, rooms_none}
-use Rattle.control_core.specs.device_state.specs.Entered.{log_by}
+use Rattle.region_config.specs.{Configurations.Configuration, Granules.with_blocks}
 use Rattle.control_core.specs.device_rules.proofs.Clearing.{own_clear-history}
 use Rattle.control_core.specs.device_rules.proofs.EffectKinds.{PassClearing, PassHeld, PassLists, clear_passes, give_back_passes, respond_passes}
-use Rattle.control_core.specs.device_rules.proofs.Leaving.{all_pass, over-leaving}
-use Rattle.control_core.specs.device_rules.proofs.LogHistories.{leaves_logs, log-left}
-use Rattle.control_core.specs.device_rules.proofs.LogOutcomes.{held_leaves, lists_leave}
+use Rattle.control_core.specs.device_rules.proofs.{Leaving.all_pass, Leaving.over-leaving, LogHistories.leaves_logs, LogHistories.log-left, LogOutcomes.held_leaves, LogOutcomes.lists_leave}
+use Rattle.control_core.specs.device_rules.{proofs.Rooms.records_none, proofs.Rooms.rooms_none, specs.Answers.host_outcome, specs.Answers.host_rule, specs.Hosts.block_after, specs.Logs.log_after}
+use Rattle.control_core.specs.device_rules.specs.{ReleaseOutcomes.give_back_changes, ResponseOutcomes.respond_changes, Views.View, Views.view_after}
+use Rattle.control_core.specs.device_state.{proofs.RecordSteps.log_all, specs.Entered.log_by}
 
 -- no block size and no record
 abbrev pub is_own : Effect → Bool

@@ -1,27 +1,16 @@
 -- Records for the host of a device with one host alone, and items that bring some.
 use Rattle.std.proofs.Common.{◌≡◌, ℕ, ◌+◌, ◌<◌, List, length, flat_map, inl, inr, sym, ap, ◌∙◌, subst, arith}
-use Rattle.std.specs.Prelude.{fold, OnOk, OnErr}
-use Rattle.std.specs.declared.result.Result.{Result}
+use Rattle.std.{proofs.lemmas.List.length-append, proofs.lemmas.List.Concat.length-flat_map, specs.Prelude.fold, specs.Prelude.OnOk, specs.Prelude.OnErr, specs.declared.result.Result.Result}
 use Rattle.std.specs.declared.result.Result.TheVariants.{Ok, Err}
-use Rattle.std.proofs.lemmas.List.{length-append}
-use Rattle.std.proofs.lemmas.List.Concat.{length-flat_map}
-use Rattle.dcd_base.specs.declared.capacity.Extent.{Extent}
-use Rattle.dcd_base.specs.declared.ids.HostId.{HostId}
-use Rattle.dcd_base.specs.declared.steps.LogId.{LogId}
-use Rattle.control_core.specs.device_rules.specs.Views.{View, extents_in, lists_in}
-use Rattle.event_log.specs.LogStates.{LogState, with_record}
-use Rattle.event_log.specs.Logs.{logged, records_in, IsLogOf}
+use Rattle.dcd_base.specs.declared.{capacity.Extent.Extent, ids.HostId.HostId, steps.LogId.LogId}
+use Rattle.control_core.specs.{device_rules.specs.Views.View, device_rules.specs.Views.extents_in, device_rules.specs.Views.lists_in, device_commands.specs.Drafts.HasExtentsOf}
+use Rattle.event_log.specs.{LogStates.LogState, LogStates.with_record, Logs.logged, Logs.records_in, Logs.IsLogOf}
 use Rattle.event_records.specs.declared.events.Event.{Event}
-use Rattle.control_core.specs.device_commands.specs.Drafts.{HasExtentsOf}
 use Rattle.extent_list.specs.HostLists.{Lists, extent_total}
 use Rattle.region_config.specs.Configurations.{Configuration}
-use Rattle.device_plain.specs.Alone.{IsAlone, TakesItem}
-use Rattle.isolation_laws.specs.Solo.{solo_after, solo_word_after, with_log_records}
-use Rattle.device_plain.specs.Telling.{Logs}
-use Rattle.device_plain.specs.declared.alone.Alone.{Alone}
+use Rattle.device_plain.{proofs.LogPuts.put_count, proofs.LogPuts.append_logged, specs.Alone.IsAlone, specs.Alone.TakesItem, specs.Telling.Logs, specs.declared.alone.Alone.Alone}
 use Rattle.device_plain.specs.declared.alone.Stop.{Stop}
-use Rattle.isolation_laws.specs.declared.items.Item.{Item}
-use Rattle.device_plain.proofs.LogPuts.{put_count, append_logged}
+use Rattle.isolation_laws.specs.{Solo.solo_after, Solo.solo_word_after, Solo.with_log_records, declared.items.Item.Item}
 
 -- lists that are those of a view have its extents
 pub shown : (v : View) (l : Lists) → l ≡ lists_in v → HasExtentsOf v l

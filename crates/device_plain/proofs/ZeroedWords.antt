@@ -1,16 +1,11 @@
 -- Effects that zero words one after another.
 use Rattle.std.proofs.Common.{◌≡◌, ℕ, suc, ◌+◌, ◌<◌, Bool, true, false, ◌||◌, List, [], ◌∷◌, ◌++◌, length, refl, sym, ap, subst, ◌∙◌, take, get_or, arith}
-use Rattle.std.specs.Prelude.{if◌then◌else◌}
-use Rattle.std.specs.List.{list_any}
-use Rattle.std.proofs.lemmas.List.{take_more}
-use Rattle.std.proofs.lemmas.List.Folds.{list_any-append}
+use Rattle.std.{specs.Prelude.if◌then◌else◌, specs.List.list_any, proofs.lemmas.List.take_more, proofs.lemmas.List.Folds.list_any-append}
 use Rattle.dcd_base.specs.declared.media.Place.{Place}
 use Rattle.granule_mem.specs.Contents.{word_kept}
 use Rattle.journal_core.specs.declared.outcome.Effect.{Effect}
 use Rattle.media_map.specs.Places.{IsWord}
-use Rattle.region_config.specs.Configurations.{Configuration}
-use Rattle.region_config.specs.Granules.{granule_total}
-use Rattle.region_config.proofs.Faultless.{granules_rise}
+use Rattle.region_config.{specs.Configurations.Configuration, specs.Granules.granule_total, proofs.Faultless.granules_rise}
 use Rattle.control_core.specs.device_rules.specs.Legal.{is_zeroing}
 use Rattle.device_plain.specs.Accesses.{AreZeroed, IsZeroedBy, Stored}
 

@@ -1,15 +1,9 @@
 -- Where a load or a store of a host lies, what it finds there, and what it changes.
-use Rattle.std.specs.Prelude.{◌≡◌, ℕ, if◌then◌else◌, List}
-use Rattle.std.specs.List.{list_any}
-use Rattle.std.specs.declared.result.Result.{Result}
+use Rattle.std.specs.{List.list_any, Prelude.◌≡◌, Prelude.ℕ, Prelude.if◌then◌else◌, Prelude.List, declared.result.Result.Result}
 use Rattle.std.specs.declared.result.Result.TheVariants.{Ok, Err}
-use Rattle.dcd_base.specs.declared.failures.AccessFault.{AccessFault}
-use Rattle.dcd_base.specs.declared.ids.HostId.{HostId}
-use Rattle.dcd_base.specs.declared.media.Place.{Place}
+use Rattle.dcd_base.specs.declared.{failures.AccessFault.AccessFault, ids.HostId.HostId, media.Place.Place}
 use Rattle.granule_mem.specs.Contents.{word_kept}
-use Rattle.journal_core.specs.Holders.{holds}
-use Rattle.journal_core.specs.declared.acts.Reply.{Reply}
-use Rattle.journal_core.specs.declared.outcome.Effect.{Effect}
+use Rattle.journal_core.specs.{Holders.holds, declared.acts.Reply.Reply, declared.outcome.Effect.Effect}
 use Rattle.media_map.specs.Places.{locate}
 use Rattle.region_config.specs.Configurations.{Configuration}
 use Rattle.control_core.specs.device_rules.specs.Legal.{is_zeroing, stored_at}

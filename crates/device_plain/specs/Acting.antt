@@ -1,11 +1,8 @@
 -- What a command changes of a device with one host alone.
-use Rattle.std.specs.Prelude.{◌≡◌, ◌≤◌, ℕ, List, [], ◌==◌, fold, if◌then◌else◌}
-use Rattle.std.specs.List.{list_any}
-use Rattle.dcd_base.specs.declared.ids.HostId.{HostId}
-use Rattle.dcd_base.specs.declared.steps.LogId.{LogId}
-use Rattle.control_core.specs.device_state.specs.Entered.{log_by}
+use Rattle.std.specs.{Prelude.◌≡◌, Prelude.◌≤◌, Prelude.ℕ, Prelude.List, Prelude.[], Prelude.◌==◌, Prelude.fold, Prelude.if◌then◌else◌, List.list_any}
+use Rattle.dcd_base.specs.declared.{ids.HostId.HostId, steps.LogId.LogId}
+use Rattle.control_core.specs.device_state.specs.{Entered.log_by, EnteredLists.counted, EnteredLists.lists_by}
 use Rattle.granule_mem.specs.Contents.{word_among}
-use Rattle.control_core.specs.device_state.specs.EnteredLists.{counted, lists_by}
 use Rattle.extent_list.specs.HostLists.{Lists, extent_total}
 use Rattle.region_config.specs.Configurations.{Configuration}
 use Rattle.journal_core.specs.declared.outcome.Effect.{Effect}

@@ -1,30 +1,16 @@
 -- What a device with one host alone keeps, and what it makes of the host's items.
 use Rattle.std.specs.Prelude.{◌≡◌, ℕ, ◌+◌, ◌≤◌, ◌&&◌, not, if◌then◌else◌, List, [], ◌∷◌, ◌++◌, take, slice_get, Some}
-use Rattle.std.specs.List.{list_any}
-use Rattle.std.specs.declared.result.Result.{Result}
-use Rattle.std.specs.declared.result.Result.TheVariants.{Ok, Err}
-use Rattle.dcd_base.specs.declared.ids.HostId.{HostId}
-use Rattle.dcd_base.specs.declared.steps.LogId.{LogId}
-use Rattle.dcd_base.specs.declared.failures.AccessFault.{AccessFault}
-use Rattle.dcd_base.specs.declared.media.Place.{Place}
-use Rattle.control_core.specs.device_rules.specs.Answers.{host_result_in, reply_with}
-use Rattle.control_core.specs.device_rules.specs.Views.{View, lists_in}
+use Rattle.std.specs.{List.list_any, declared.result.Result.Result, declared.result.Result.TheVariants.Ok, declared.result.Result.TheVariants.Err}
+use Rattle.dcd_base.specs.declared.{ids.HostId.HostId, steps.LogId.LogId, failures.AccessFault.AccessFault, media.Place.Place}
+use Rattle.control_core.specs.device_rules.specs.{Answers.host_result_in, Answers.reply_with, Views.View, Views.lists_in}
 use Rattle.granule_mem.specs.Contents.{word_among}
 use Rattle.event_log.specs.Logs.{IsLogOf}
 use Rattle.extent_list.specs.HostLists.{extent_total}
-use Rattle.journal_core.specs.declared.acts.Act.{Act}
-use Rattle.journal_core.specs.declared.acts.Reply.{Reply}
+use Rattle.journal_core.specs.declared.acts.{Act.Act, Reply.Reply}
 use Rattle.media_map.specs.Places.{locate}
-use Rattle.region_config.specs.Configurations.{Configuration}
-use Rattle.region_config.specs.Granules.{region_spec, with_blocks}
-use Rattle.region_config.specs.declared.region_spec.RegionSpec.{RegionSpec}
-use Rattle.isolation_laws.specs.Solo.{has_byte, solo, solo_after, solo_view, solo_word_after}
-use Rattle.device_plain.specs.declared.alone.Alone.{Alone}
-use Rattle.device_plain.specs.declared.alone.Stop.{Stop}
-use Rattle.isolation_laws.specs.declared.items.Item.{Item}
-use Rattle.isolation_laws.specs.declared.items.SoloReply.{SoloReply}
-use Rattle.device_plain.specs.declared.replying.SoloFault.{SoloFault}
-use Rattle.isolation_laws.specs.Unlawful.{IsUnlawful}
+use Rattle.region_config.specs.{Configurations.Configuration, Granules.region_spec, Granules.with_blocks, declared.region_spec.RegionSpec.RegionSpec}
+use Rattle.isolation_laws.specs.{Solo.has_byte, Solo.solo, Solo.solo_after, Solo.solo_view, Solo.solo_word_after, declared.items.Item.Item, declared.items.SoloReply.SoloReply, Unlawful.IsUnlawful}
+use Rattle.device_plain.specs.declared.{alone.Alone.Alone, alone.Stop.Stop, replying.SoloFault.SoloFault}
 
 -- ---- what is replied
 

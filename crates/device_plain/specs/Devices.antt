@@ -2,9 +2,7 @@
 use Rattle.std.specs.Prelude.{◌≡◌, ℕ, List, [], ◌∷◌, ◌++◌}
 use Rattle.dcd_base.specs.declared.steps.Actor.{Actor}
 use Rattle.region_config.specs.Configurations.{Configuration}
-use Rattle.journal_core.specs.declared.acts.Act.{Act}
-use Rattle.journal_core.specs.declared.acts.Reply.{Reply}
-use Rattle.journal_core.specs.declared.entries.Entry.{Entry}
+use Rattle.journal_core.specs.declared.{acts.Act.Act, acts.Reply.Reply, entries.Entry.Entry}
 
 -- The configuration that the device was made with, and its journal.
 pub record Plain : Type 0 where

@@ -1,18 +1,11 @@
 -- What every device keeps.
 use Rattle.std.specs.Prelude.{◌≡◌, ℕ, ◌<◌, ◌≤◌, List, [], ◌∷◌, length, All}
 use Rattle.dcd_base.specs.declared.ids.HostId.{HostId}
-use Rattle.region_config.specs.Configurations.{Configuration}
-use Rattle.region_config.specs.Granules.{granule_total}
-use Rattle.region_config.specs.Soundness.{IsSound}
+use Rattle.region_config.specs.{Configurations.Configuration, Granules.granule_total, Soundness.IsSound}
 use Rattle.granule_mem.specs.Contents.{word_kept}
-use Rattle.journal_core.specs.declared.entries.Entry.{Entry}
-use Rattle.journal_core.specs.Entries.{Each, effects}
-use Rattle.journal_core.specs.Merging.{Numbered, commands_in, merged}
-use Rattle.control_core.specs.device_rules.specs.Hosts.{changes_of}
-use Rattle.control_core.specs.device_rules.specs.Legal.{Legal, word_of}
-use Rattle.control_core.specs.Deciding.{AreShort}
-use Rattle.device_plain.specs.Accesses.{Stored}
-use Rattle.device_plain.specs.Numbering.{IsCounted, IsReachedBy, accesses_of, accesses_since, commands_of}
+use Rattle.journal_core.specs.{declared.entries.Entry.Entry, Entries.Each, Entries.effects, Merging.Numbered, Merging.commands_in, Merging.merged}
+use Rattle.control_core.specs.{device_rules.specs.Hosts.changes_of, device_rules.specs.Legal.Legal, device_rules.specs.Legal.word_of, Deciding.AreShort}
+use Rattle.device_plain.specs.{Accesses.Stored, Numbering.IsCounted, Numbering.IsReachedBy, Numbering.accesses_of, Numbering.accesses_since, Numbering.commands_of}
 
 -- The journal is legal and numbered; the control has its commands and scrubs, which have all its effects and changes
 -- of hosts' lists; and the words are those that it stored.

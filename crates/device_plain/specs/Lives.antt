@@ -1,23 +1,13 @@
 -- A device that keeps nothing of its past, as contracts see it: the journals that lead to it, and what a step does.
 use Rattle.std.specs.Prelude.{◌≡◌, ℕ, ◌<◌, ◌≤◌, IsTrue, List, [], ◌∷◌, ◌++◌, length, map}
 use Rattle.dcd_base.specs.declared.steps.Actor.{Actor}
-use Rattle.region_config.specs.Configurations.{Configuration}
-use Rattle.region_config.specs.Granules.{granule_total}
-use Rattle.region_config.specs.Soundness.{IsSound}
+use Rattle.region_config.specs.{Configurations.Configuration, Granules.granule_total, Soundness.IsSound}
 use Rattle.granule_mem.specs.Contents.{Media, holders_in, word_in}
-use Rattle.journal_core.specs.Entries.{effects, fits, is_control}
-use Rattle.journal_core.specs.declared.acts.Act.{Act}
-use Rattle.journal_core.specs.declared.acts.Reply.{Reply}
-use Rattle.journal_core.specs.declared.entries.Entry.{Entry}
-use Rattle.journal_core.specs.declared.outcome.Effect.{Effect}
-use Rattle.control_core.specs.device_rules.specs.ChangedRuns.{AreHolders}
-use Rattle.control_core.specs.device_rules.specs.Legal.{Exclusive, Legal, Meets, right_answer, word_of}
-use Rattle.control_core.specs.device_state.specs.StateAfter.{IsStateAfter}
-use Rattle.control_core.specs.device_state.specs.declared.state.State.{State}
-use Rattle.isolation_laws.specs.Laws.{Clean}
-use Rattle.isolation_laws.specs.Solo.{Isolated}
-use Rattle.device_plain.specs.Accesses.{Stored}
-use Rattle.device_plain.specs.declared.faults.StepFault.{StepFault}
+use Rattle.journal_core.specs.{Entries.effects, Entries.fits, Entries.is_control, declared.acts.Act.Act, declared.acts.Reply.Reply, declared.entries.Entry.Entry, declared.outcome.Effect.Effect}
+use Rattle.control_core.specs.device_rules.specs.{ChangedRuns.AreHolders, Legal.Exclusive, Legal.Legal, Legal.Meets, Legal.right_answer, Legal.word_of}
+use Rattle.control_core.specs.device_state.specs.{StateAfter.IsStateAfter, declared.state.State.State}
+use Rattle.isolation_laws.specs.{Laws.Clean, Solo.Isolated}
+use Rattle.device_plain.specs.{Accesses.Stored, declared.faults.StepFault.StepFault}
 
 -- The configuration that the device was made with, what it keeps, and its words and their holders.
 pub record Living : Type 0 where

@@ -1,10 +1,7 @@
 -- How the entries of a journal are numbered.
 use Rattle.std.specs.Prelude.{◌≡◌, ℕ, ◌+◌, ◌≤◌, List, filter, fold, if◌then◌else◌, not}
 use Rattle.dcd_base.specs.declared.steps.Stamp.{Stamp}
-use Rattle.journal_core.specs.declared.acts.Act.{Act}
-use Rattle.journal_core.specs.declared.entries.Entry.{Entry}
-use Rattle.journal_core.specs.Entries.{is_control}
-use Rattle.journal_core.specs.Merging.{commands_in}
+use Rattle.journal_core.specs.{declared.acts.Act.Act, declared.entries.Entry.Entry, Entries.is_control, Merging.commands_in}
 
 -- the commands and scrubs, in order
 abbrev pub commands_of : List Entry → List Entry

@@ -1,20 +1,13 @@
 -- What a device with one host alone makes of records for its host, and what it replies to an item.
 use Rattle.std.specs.Prelude.{◌≡◌, ℕ, ◌<◌, false, List, [], ◌∷◌, ◌++◌, length}
-use Rattle.std.specs.declared.result.Result.{Result}
-use Rattle.std.specs.declared.result.Result.TheVariants.{Ok, Err}
+use Rattle.std.specs.declared.result.Result.{Result, TheVariants.Ok, TheVariants.Err}
 use Rattle.dcd_base.specs.declared.ids.HostId.{HostId}
-use Rattle.control_core.specs.device_rules.specs.Outcomes.{record_for, no_extent}
-use Rattle.control_core.specs.device_rules.specs.Views.{View}
+use Rattle.control_core.specs.device_rules.specs.{Outcomes.record_for, Outcomes.no_extent, Views.View}
 use Rattle.event_log.specs.Logs.{records_in}
-use Rattle.event_records.specs.declared.events.Event.{Event}
-use Rattle.event_records.specs.declared.events.EventKind.{EventKind}
+use Rattle.event_records.specs.declared.events.{Event.Event, EventKind.EventKind}
 use Rattle.region_config.specs.Configurations.{Configuration}
-use Rattle.device_plain.specs.Alone.{IsAlone, reply_in}
-use Rattle.isolation_laws.specs.Solo.{with_log_records}
-use Rattle.device_plain.specs.declared.alone.Alone.{Alone}
-use Rattle.device_plain.specs.declared.alone.Stop.{Stop}
-use Rattle.isolation_laws.specs.declared.items.Item.{Item}
-use Rattle.isolation_laws.specs.declared.items.SoloReply.{SoloReply}
+use Rattle.device_plain.specs.{Alone.IsAlone, Alone.reply_in, declared.alone.Alone.Alone, declared.alone.Stop.Stop}
+use Rattle.isolation_laws.specs.{Solo.with_log_records, declared.items.Item.Item, declared.items.SoloReply.SoloReply}
 
 -- The records are in the log, whatever the host saw before; or the log has no room for them.
 abbrev pub Logs : Configuration → HostId → (View → List Event) → Alone → Alone → Result Unit Stop → Type 0

@@ -1,36 +1,23 @@
 -- What a 5604h that breaks no rule offers: extents of present blocks of one region, of free granules or of those of an open tag.
 use Rattle.std.proofs.Common.{◌≡◌, ℕ, zero, suc, ◌+◌, ◌*◌, ◌/◌, ◌%◌, ◌<◌, ◌≤◌, Bool, true, List, [], ◌∷◌, length, map, Option, Some, None, refl, ap, sym, subst, ◌∙◌, inl, inr, arith, leb, ltb, div-add-mod', zero-mul}
-use Rattle.std.specs.Prelude.{if◌then◌else◌, option_map, option_to_list}
-use Rattle.std.specs.List.{AllByRecursion, enumerate_from, list_all, range_with_len}
-use Rattle.std.proofs.lemmas.Bool.{and_parts, cases_Bool, cases_eq, cases_lt, false≢true, leb-true, ltb-true}
-use Rattle.std.proofs.lemmas.List.{length-map}
-use Rattle.cci_codec.specs.dcd_base.specs.declared.capacity.Extent.{Extent}
-use Rattle.cci_codec.specs.dcd_base.specs.declared.capacity.Tag.{Tag}
-use Rattle.cci_codec.specs.dcd_base.specs.declared.ids.HostId.{HostId}
-use Rattle.cci_codec.specs.dcd_base.specs.declared.media.Run.{Run}
-use Rattle.cci_codec.specs.dcd_base.specs.Words.{◌or◌, has_granule, has_in_runs, is_empty, zero_tag}
-use Rattle.extent_list.specs.dcd_codes.specs.declared.rules.Rule.{Rule}
-use Rattle.extent_list.specs.dcd_codes.specs.Rules.{◌breaks◌, each_in}
-use Rattle.extent_list.specs.media_map.specs.region_config.specs.Configurations.{Configuration}
-use Rattle.extent_list.specs.media_map.specs.region_config.specs.Soundness.{IsSound}
-use Rattle.extent_list.specs.media_map.specs.region_config.specs.Granules.{first_granule, granule_size, region_granules, is_supported, region_spec, with_blocks}
-use Rattle.extent_list.specs.media_map.specs.region_config.proofs.PresentBlocks.{granules_in-with_blocks, region_spec-with_blocks}
+use Rattle.std.proofs.lemmas.{Bool.and_parts, Bool.cases_Bool, Bool.cases_eq, Bool.cases_lt, Bool.false≢true, Bool.leb-true, Bool.ltb-true, List.length-map}
+use Rattle.std.specs.{List.AllByRecursion, List.enumerate_from, List.list_all, List.range_with_len, Prelude.if◌then◌else◌, Prelude.option_map, Prelude.option_to_list}
+use Rattle.cci_codec.specs.dcd_base.specs.{Words.◌or◌, Words.has_granule, Words.has_in_runs, Words.is_empty, Words.zero_tag, declared.capacity.Extent.Extent, declared.capacity.Tag.Tag}
+use Rattle.cci_codec.specs.dcd_base.specs.declared.{ids.HostId.HostId, media.Run.Run}
+use Rattle.extent_list.specs.{Listing.too_many_listed, dcd_codes.specs.Rules.◌breaks◌, dcd_codes.specs.Rules.each_in, dcd_codes.specs.declared.rules.Rule.Rule}
 use Rattle.extent_list.specs.media_map.specs.Places.{extent_of, region_at, run_of}
-use Rattle.granule_map.specs.Blocks.{block_count, run_of_blocks}
-use Rattle.granule_map.specs.Choices.{lowest_run}
-use Rattle.granule_map.proofs.RunSteps.{below_from_none}
-use Rattle.extent_list.specs.Listing.{too_many_listed}
+use Rattle.extent_list.specs.media_map.specs.region_config.{proofs.PresentBlocks.granules_in-with_blocks, proofs.PresentBlocks.region_spec-with_blocks, specs.Configurations.Configuration}
+use Rattle.extent_list.specs.media_map.specs.region_config.specs.Granules.{first_granule, granule_size, region_granules, is_supported, region_spec, with_blocks}
+use Rattle.extent_list.specs.media_map.specs.region_config.specs.Soundness.{IsSound}
+use Rattle.granule_map.{specs.Blocks.block_count, specs.Blocks.run_of_blocks, specs.Choices.lowest_run, proofs.RunSteps.below_from_none}
+use Rattle.selection.proofs.{Chosen.contiguous_are_free, Chosen.free_are_free, Chosen.free_some, Prescribed.kept, Prescribed.neither}
 use Rattle.selection.specs.Selections.{all_free, are_free, contiguous_runs, free_extent_rule, free_runs, is_free_block, prescribed_rule}
-use Rattle.selection.proofs.Chosen.{contiguous_are_free, free_are_free, free_some}
-use Rattle.selection.proofs.Prescribed.{kept, neither}
-use Rattle.device_rules.specs.Adding.{area_of, extents_of, per_block, with_tag, region_free_blocks as blocks_free, region_longest_free as blocks_together}
-use Rattle.device_rules.specs.Pictures.{count_on}
-use Rattle.device_rules.specs.Standing.{IsMade}
 use Rattle.device_rules.proofs.BlockRuns.{IsBlockRun, apart_count, contiguous_apart, contiguous_block_runs, extent_made, extent_run, free_apart, free_block_runs}
 use Rattle.device_rules.proofs.Homes.{extent_same, first_same, made_region, placed_made, run_same, size_same, supported_some, supported_whole}
-use Rattle.device_rules.proofs.ListSteps.{any-map, each-change, each-map, many, many-map}
-use Rattle.device_rules.proofs.OneOffer.{reaches}
+use Rattle.device_rules.proofs.{ListSteps.any-map, ListSteps.each-change, ListSteps.each-map, ListSteps.many, ListSteps.many-map, OneOffer.reaches}
 use Rattle.device_rules.proofs.Overlaps.{Spread, not_broken, row_each, row_spread, spread_once}
+use Rattle.device_rules.specs.Adding.{area_of, extents_of, per_block, with_tag, region_free_blocks as blocks_free, region_longest_free as blocks_together}
+use Rattle.device_rules.specs.{Pictures.count_on, Standing.IsMade}
 
 -- ---- with tag and sequence
 

@@ -1,44 +1,20 @@
 -- The table after the manager offers capacity, and what the rules of that read in it: 5604h.
 use Rattle.std.proofs.Common.{◌≡◌, ℕ, ◌<◌, ◌≤◌, true, false, ◌&&◌, ◌||◌, not, ◌==◌, List, [], ◌∷◌, ◌++◌, map, Some, None, refl, sym, ap, subst, ◌∙◌, inl, inr, arith}
-use Rattle.std.specs.Prelude.{if◌then◌else◌, unwrap_or}
-use Rattle.std.specs.List.{list_any}
+use Rattle.std.specs.{Prelude.if◌then◌else◌, Prelude.unwrap_or, List.list_any}
 use Rattle.std.proofs.lemmas.Bool.{and_cases, and_parts, and_right, cases_Bool, cases_lt, eq-eqb, eqb-true, false≢true, le-leb, ne_eqb, not-false}
-use Rattle.cci_codec.specs.dcd_base.specs.Words.{has_tag, is_zero_tag}
-use Rattle.cci_codec.specs.dcd_base.specs.declared.capacity.Extent.{Extent}
-use Rattle.cci_codec.specs.dcd_base.specs.declared.capacity.Tag.{Tag}
-use Rattle.cci_codec.specs.dcd_base.specs.declared.steps.LogId.{LogId}
+use Rattle.cci_codec.specs.dcd_base.specs.{Words.has_tag, Words.is_zero_tag, declared.capacity.Extent.Extent, declared.capacity.Tag.Tag, declared.steps.LogId.LogId}
 use Rattle.event_records.specs.declared.events.Event.{Event}
-use Rattle.extent_list.specs.ExtentLists.{has_extent_of}
+use Rattle.extent_list.specs.{ExtentLists.has_extent_of, media_map.specs.Places.run_of, media_map.specs.region_config.specs.Configurations.Configuration}
+use Rattle.extent_list.specs.media_map.specs.region_config.specs.{Granules.hosts_of, Granules.region_spec, Soundness.IsSound}
 use Rattle.fm_payloads.specs.declared.requests.FmRequest.{FmRequest}
-use Rattle.journal_core.specs.Entries.{effects}
-use Rattle.journal_core.specs.declared.entries.Entry.{Entry}
-use Rattle.journal_core.specs.declared.outcome.Effect.{Effect}
-use Rattle.extent_list.specs.media_map.specs.Places.{run_of}
-use Rattle.extent_list.specs.media_map.specs.region_config.specs.Configurations.{Configuration}
-use Rattle.extent_list.specs.media_map.specs.region_config.specs.Granules.{hosts_of, region_spec}
-use Rattle.extent_list.specs.media_map.specs.region_config.specs.Soundness.{IsSound}
-use Rattle.tag_refs.specs.Tables.{opened, passes, has_entry, entry_referenced}
-use Rattle.tag_refs.specs.declared.entries.TagEntry.{TagEntry}
-use Rattle.device_rules.specs.Adding.{is_open_in, offered}
-use Rattle.device_rules.specs.Answers.{manager_outcome, manager_rule}
-use Rattle.device_rules.specs.Hosts.{accepted_of, offers_of}
-use Rattle.device_rules.specs.Legal.{Legal}
-use Rattle.device_rules.specs.Outcomes.{Outcome, ended}
-use Rattle.device_rules.specs.Tags.{is_live, is_referenced, last_offer, open_tags, region_of_offer, tag_region}
-use Rattle.device_rules.specs.Views.{view_of}
-use Rattle.device_rules.specs.Pictures.{picture_of}
-use Rattle.device_rules.specs.Standing.{Sound}
-use Rattle.device_rules.proofs.Adding.{IsAdded, IsRow, added, row_of}
-use Rattle.device_rules.proofs.LegalSound.{legal_is_sound}
-use Rattle.device_rules.proofs.OneOffer.{IsShared}
-use Rattle.device_rules.specs.TagTableSteps.{FollowsOffer, IsOffered}
-use Rattle.device_rules.specs.Tabled.{OfferDoes, Tabled}
-use Rattle.device_rules.specs.TagTable.{IsTable, among}
-use Rattle.device_rules.proofs.TagEntries.{open_uses, table_live, table_passes, uses}
+use Rattle.journal_core.specs.{Entries.effects, declared.entries.Entry.Entry, declared.outcome.Effect.Effect}
+use Rattle.tag_refs.specs.{Tables.opened, Tables.passes, Tables.has_entry, Tables.entry_referenced, declared.entries.TagEntry.TagEntry}
+use Rattle.device_rules.proofs.{Adding.IsAdded, Adding.IsRow, Adding.added, Adding.row_of, HostOfTagsSet.anew, HostOfTagsSet.ended_ending, LegalSound.legal_is_sound}
 use Rattle.device_rules.proofs.OfferSteps.{opened_table, private_table, shared_held, shared_now, shared_offered, shared_tags, shared_uses}
-use Rattle.device_rules.proofs.ReferenceSteps.{table_referenced}
-use Rattle.device_rules.proofs.SettledTags.{unended}
-use Rattle.device_rules.proofs.HostOfTagsSet.{anew, ended_ending}
+use Rattle.device_rules.proofs.{OneOffer.IsShared, ReferenceSteps.table_referenced, SettledTags.unended, TagEntries.open_uses, TagEntries.table_live, TagEntries.table_passes, TagEntries.uses}
+use Rattle.device_rules.specs.{Adding.is_open_in, Adding.offered, Answers.manager_outcome, Answers.manager_rule, Hosts.accepted_of, Hosts.offers_of, Legal.Legal, Outcomes.Outcome, Outcomes.ended}
+use Rattle.device_rules.specs.{Pictures.picture_of, Standing.Sound, Tabled.OfferDoes, Tabled.Tabled, TagTable.IsTable, TagTable.among, TagTableSteps.FollowsOffer, TagTableSteps.IsOffered}
+use Rattle.device_rules.specs.{Tags.is_live, Tags.is_referenced, Tags.last_offer, Tags.open_tags, Tags.region_of_offer, Tags.tag_region, Views.view_of}
 
 -- ---- what the rules read
 

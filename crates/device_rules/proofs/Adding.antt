@@ -1,43 +1,23 @@
 -- A 5604h that breaks no rule keeps what every legal journal keeps.
 use Rattle.std.proofs.Common.{◌≡◌, ◌⊎◌, ℕ, ◌+◌, ◌*◌, ◌/◌, ◌%◌, ◌<◌, ◌≤◌, true, false, not, ◌&&◌, ◌||◌, ◌==◌, List, [], ◌∷◌, ◌++◌, length, map, None, ap, sym, subst, ◌∙◌, inl, inr, arith, leb, ltb, eqb, div-add-mod', zero-mul}
-use Rattle.std.specs.Prelude.{unwrap_or}
-use Rattle.std.specs.List.{AllByRecursion}
+use Rattle.std.{specs.Prelude.unwrap_or, specs.List.AllByRecursion, proofs.lemmas.List.length-map}
 use Rattle.std.proofs.lemmas.Bool.{and_cases, and_parts, cases_Bool, cases_eq, eqb-false, eqb-true, false≢true, leb-false, ltb-false, not-false, or_parts}
-use Rattle.std.proofs.lemmas.List.{length-map}
-use Rattle.cci_codec.specs.dcd_base.specs.declared.capacity.Extent.{Extent}
-use Rattle.cci_codec.specs.dcd_base.specs.declared.capacity.Tag.{Tag}
-use Rattle.cci_codec.specs.dcd_base.specs.declared.ids.HostId.{HostId}
-use Rattle.cci_codec.specs.dcd_base.specs.declared.media.Run.{Run}
-use Rattle.cci_codec.specs.dcd_base.specs.Limits.{extents_supported}
-use Rattle.cci_codec.specs.dcd_base.specs.Words.{has_granule, has_in_runs, has_tag, is_zero_tag, where_true}
-use Rattle.extent_list.specs.dcd_codes.specs.declared.rules.Rule.{Rule}
-use Rattle.extent_list.specs.dcd_codes.specs.Rules.{◌breaks◌}
-use Rattle.extent_list.specs.media_map.specs.region_config.specs.Configurations.{Configuration}
+use Rattle.cci_codec.specs.dcd_base.specs.{Limits.extents_supported, Words.has_granule, Words.has_in_runs, Words.has_tag, Words.is_zero_tag, Words.where_true, declared.capacity.Extent.Extent}
+use Rattle.cci_codec.specs.dcd_base.specs.declared.{capacity.Tag.Tag, ids.HostId.HostId, media.Run.Run}
+use Rattle.extent_list.specs.{ExtentLists.has_extent_of, ExtentLists.real_tags, Listing.too_many_extents, dcd_codes.specs.Rules.◌breaks◌, dcd_codes.specs.declared.rules.Rule.Rule}
+use Rattle.extent_list.specs.media_map.specs.{Places.run_of, region_config.specs.Configurations.Configuration, region_config.specs.Granules.region_of, region_config.specs.Granules.region_spec}
 use Rattle.extent_list.specs.media_map.specs.region_config.specs.Soundness.{IsSound}
-use Rattle.extent_list.specs.media_map.specs.region_config.specs.Granules.{region_of, region_spec}
-use Rattle.extent_list.specs.media_map.specs.Places.{run_of}
-use Rattle.extent_list.specs.ExtentLists.{has_extent_of, real_tags}
-use Rattle.journal_core.specs.declared.entries.Entry.{Entry}
-use Rattle.journal_core.specs.declared.outcome.Effect.{Effect}
-use Rattle.journal_core.specs.Entries.{effects}
-use Rattle.extent_list.specs.Listing.{too_many_extents}
-use Rattle.selection.specs.Selections.{contiguous_runs, free_runs, prescribed_rule, too_few_free}
+use Rattle.journal_core.specs.{declared.entries.Entry.Entry, declared.outcome.Effect.Effect, Entries.effects}
+use Rattle.selection.{specs.Selections.contiguous_runs, specs.Selections.free_runs, specs.Selections.prescribed_rule, specs.Selections.too_few_free, proofs.Prescribed.neither}
 use Rattle.device_rules.specs.Adding.{add_outcome, add_rule, area_of, by_length_rule, extents_of, is_free_now, is_open_in, offered, per_block, present, with_tag, too_many_tags, region_free_blocks as blocks_free, region_longest_free as blocks_together}
-use Rattle.device_rules.specs.Outcomes.{effects_of, log_full}
+use Rattle.device_rules.proofs.{BlockRuns.IsBlockRun, BlockRuns.block_run, FreeGranules.free_none, FreeGranules.free_untagged, FreeGranules.none_of_open, Holding.present_whole}
+use Rattle.device_rules.proofs.{Homes.made_of_region, Homes.made_region, ListSteps.each-at, ListSteps.each-map, ListSteps.many}
+use Rattle.device_rules.proofs.{OneOffer.IsFresh, OneOffer.IsOffer, OneOffer.IsShared, OneOffer.offer_lives, OneOffer.offer_stands, OneOffer.reaches, OneOffer.stands_for, Overlaps.not_broken}
+use Rattle.device_rules.{proofs.Settling.outcome_keeps, specs.Outcomes.effects_of, specs.Outcomes.log_full}
+use Rattle.device_rules.specs.{Pictures.Picture, Pictures.extents_at, Pictures.lives, Pictures.picture_after, Pictures.picture_of, Standing.IsMade, Standing.Sound, Standing.Stands}
 use Rattle.device_rules.specs.Tags.{is_free, is_live, last_offer, open_tags, region_of_offer, status, tag_region, tag_runs}
 use Rattle.device_rules.specs.Views.{View, extents_in, view_of}
-use Rattle.device_rules.specs.Pictures.{Picture, extents_at, lives, picture_after, picture_of}
-use Rattle.device_rules.specs.Standing.{IsMade, Sound, Stands}
 use Rattle.device_rules.proofs.AddChoices.{IsChosen, contiguous_chosen, contiguous_reached, count_runs, free_chosen, free_reached, marked_chosen, marked_runs, marked_tags, prescribed_chosen, prescribed_reached, reach_runs, runs_back, runs_chosen}
-use Rattle.device_rules.proofs.BlockRuns.{IsBlockRun, block_run}
-use Rattle.device_rules.proofs.FreeGranules.{free_none, free_untagged, none_of_open}
-use Rattle.device_rules.proofs.Holding.{present_whole}
-use Rattle.device_rules.proofs.Homes.{made_of_region, made_region}
-use Rattle.device_rules.proofs.ListSteps.{each-at, each-map, many}
-use Rattle.device_rules.proofs.OneOffer.{IsFresh, IsOffer, IsShared, offer_lives, offer_stands, reaches, stands_for}
-use Rattle.device_rules.proofs.Overlaps.{not_broken}
-use Rattle.selection.proofs.Prescribed.{neither}
-use Rattle.device_rules.proofs.Settling.{outcome_keeps}
 
 -- the rules of the row that an offer keeps
 pub record IsRow (c : Configuration) (past : List Effect) (p : Picture) (h : HostId) (policy r bytes : ℕ) (tag : Tag) (list : List Extent) : Type 0 where

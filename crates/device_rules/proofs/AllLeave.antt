@@ -1,27 +1,16 @@
 -- Extents that leave their host one after another.
 use Rattle.std.proofs.Common.{◌≡◌, ◌⊎◌, ℕ, ◌+◌, ◌<◌, ◌≤◌, Bool, true, false, ◌==◌, List, [], ◌∷◌, ◌++◌, length, refl, ap, sym, subst, ◌∙◌, inl, inr, arith, length-append, append_assoc, ◌%◌}
+use Rattle.std.proofs.lemmas.{Bool.cases_Bool, Bool.le-ltb, Bool.or_left, Bool.or_parts, Bool.or_right, List.Folds.list_any-append}
 use Rattle.std.specs.List.{AllByRecursion, list_all, list_any}
-use Rattle.std.proofs.lemmas.Bool.{cases_Bool, le-ltb, or_left, or_parts, or_right}
-use Rattle.std.proofs.lemmas.List.Folds.{list_any-append}
-use Rattle.cci_codec.specs.dcd_base.specs.declared.capacity.Extent.{Extent}
-use Rattle.cci_codec.specs.dcd_base.specs.declared.capacity.Tag.{Tag}
-use Rattle.cci_codec.specs.dcd_base.specs.declared.ids.HostId.{HostId}
-use Rattle.cci_codec.specs.dcd_base.specs.declared.media.Run.{Run}
-use Rattle.cci_codec.specs.dcd_base.specs.Words.{same_tag}
+use Rattle.cci_codec.specs.dcd_base.specs.{declared.capacity.Extent.Extent, declared.capacity.Tag.Tag, declared.ids.HostId.HostId, declared.media.Run.Run, Words.same_tag}
 use Rattle.extent_list.specs.ExtentLists.{cut, cut_all, has_extent_of, has_range, is_in, lies_in, overlaps, piece, without}
-use Rattle.extent_list.specs.media_map.specs.region_config.specs.Configurations.{Configuration}
-use Rattle.extent_list.specs.media_map.specs.region_config.specs.Soundness.{IsSound}
-use Rattle.extent_list.specs.media_map.specs.region_config.specs.Granules.{granule_size, region_spec}
-use Rattle.extent_list.specs.media_map.specs.Places.{region_at, run_of}
+use Rattle.extent_list.specs.media_map.specs.{Places.region_at, Places.run_of, region_config.specs.Configurations.Configuration}
+use Rattle.extent_list.specs.media_map.specs.region_config.specs.{Granules.granule_size, Granules.region_spec, Soundness.IsSound}
 use Rattle.journal_core.specs.declared.outcome.Effect.{Effect}
-use Rattle.device_rules.specs.ReleaseOutcomes.{removals, soils}
-use Rattle.device_rules.specs.Pictures.{Picture, picture_after}
+use Rattle.device_rules.proofs.{CutSteps.IsPiece, CutSteps.cut_each, CutSteps.in_cut, CutSteps.lies, CutSteps.lies-from, CutSteps.tag_stays, ListSteps.each-both, ListSteps.each-change}
+use Rattle.device_rules.proofs.{OneLeave.Loose, OneLeave.accepted_made, OneLeave.accepted_now, OneLeave.accepted_other, OneLeave.leave_loose, OneLeave.whole_blocks, Overlaps.Spread}
+use Rattle.device_rules.{proofs.Quiet.is_quiet, proofs.Quiet.quiet_front, specs.Pictures.Picture, specs.Pictures.picture_after, specs.ReleaseOutcomes.removals, specs.ReleaseOutcomes.soils}
 use Rattle.device_rules.specs.Standing.{IsMade}
-use Rattle.device_rules.proofs.CutSteps.{IsPiece, cut_each, in_cut, lies, lies-from, tag_stays}
-use Rattle.device_rules.proofs.ListSteps.{each-both, each-change}
-use Rattle.device_rules.proofs.OneLeave.{Loose, accepted_made, accepted_now, accepted_other, leave_loose, whole_blocks}
-use Rattle.device_rules.proofs.Overlaps.{Spread}
-use Rattle.device_rules.proofs.Quiet.{is_quiet, quiet_front}
 
 -- no extent shares an address with one before it
 abbrev pub Behind : List Extent → Type 0

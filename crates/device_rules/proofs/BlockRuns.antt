@@ -1,32 +1,19 @@
 -- Runs of whole blocks of a region, and the extents that they are for a host.
 use Rattle.std.proofs.Common.{◌≡◌, ℕ, suc, ◌+◌, ◌-◌, ◌*◌, ◌/◌, ◌%◌, ◌<◌, ◌≤◌, Bool, List, [], ◌∷◌, length, Option, Some, None, refl, ap, sym, subst, ◌∙◌, inl, inr, arith, leb, div-add-mod', mul-le-mul_right}
+use Rattle.std.proofs.{Math.Nat.mul-mod_left, Math.Nat.mul_assoc, Math.Nat.zero-mul, lemmas.Bool.cases_Bool, lemmas.Bool.leb-true, lemmas.List.FromFn.length-range_with_len}
+use Rattle.std.{proofs.lemmas.List.Sums.prefix_len-le-length, proofs.lemmas.Option.none-some, proofs.lemmas.Option.same_Some, specs.List.AllByRecursion, specs.List.range_with_len}
 use Rattle.std.specs.Prelude.{option_map, option_to_list, take, if◌then◌else◌}
-use Rattle.std.specs.List.{AllByRecursion, range_with_len}
-use Rattle.std.proofs.lemmas.Bool.{cases_Bool, leb-true}
-use Rattle.std.proofs.lemmas.List.FromFn.{length-range_with_len}
-use Rattle.std.proofs.lemmas.List.Sums.{prefix_len-le-length}
-use Rattle.std.proofs.lemmas.Option.{none-some, same_Some}
-use Rattle.std.proofs.Math.Nat.{mul-mod_left, mul_assoc, zero-mul}
-use Rattle.cci_codec.specs.dcd_base.specs.declared.capacity.Extent.{Extent}
-use Rattle.cci_codec.specs.dcd_base.specs.declared.capacity.Tag.{Tag}
-use Rattle.cci_codec.specs.dcd_base.specs.declared.ids.HostId.{HostId}
-use Rattle.cci_codec.specs.dcd_base.specs.declared.media.Run.{Run}
-use Rattle.cci_codec.specs.dcd_base.specs.Words.{has_granule, zero_tag}
-use Rattle.extent_list.specs.media_map.specs.region_config.specs.Configurations.{Configuration}
-use Rattle.extent_list.specs.media_map.specs.region_config.specs.Granules.{base_of, first_granule, granule_size, region_granules, region_of}
-use Rattle.extent_list.specs.media_map.specs.region_config.specs.Soundness.{IsSound}
-use Rattle.extent_list.specs.media_map.specs.region_config.proofs.Faultless.{granule_from, granules_rise}
-use Rattle.extent_list.specs.media_map.specs.region_config.proofs.GranuleLemmas.{region_is}
-use Rattle.extent_list.specs.media_map.specs.Places.{IsRun, bytes_of_run, extent_of, is_granular, run_of, start_of}
+use Rattle.cci_codec.specs.dcd_base.specs.{declared.capacity.Extent.Extent, declared.capacity.Tag.Tag, declared.ids.HostId.HostId, declared.media.Run.Run, Words.has_granule, Words.zero_tag}
 use Rattle.extent_list.specs.media_map.proofs.RunLemmas.{ends_within, range_back, run_fits, run_some}
-use Rattle.granule_map.specs.Blocks.{block_count, run_of_blocks}
+use Rattle.extent_list.specs.media_map.specs.Places.{IsRun, bytes_of_run, extent_of, is_granular, run_of, start_of}
+use Rattle.extent_list.specs.media_map.specs.region_config.{proofs.Faultless.granule_from, proofs.Faultless.granules_rise, proofs.GranuleLemmas.region_is, specs.Configurations.Configuration}
+use Rattle.extent_list.specs.media_map.specs.region_config.specs.{Granules.base_of, Granules.first_granule, Granules.granule_size, Granules.region_granules, Granules.region_of, Soundness.IsSound}
+use Rattle.granule_map.{proofs.Joining.lowest_found, specs.Blocks.block_count, specs.Blocks.run_of_blocks}
 use Rattle.granule_map.specs.Choices.{joined, lowest_run, passing, run_from}
-use Rattle.selection.specs.Selections.{AreApart, AreBetween, always_together, contiguous_runs, free_runs, granules_of_blocks, is_free_block}
 use Rattle.selection.proofs.Chosen.{NumbersBetween, PairsBetween, blocks_between, between_apart, filter_between, joined_between, take_between}
-use Rattle.granule_map.proofs.Joining.{lowest_found}
-use Rattle.device_rules.specs.Standing.{IsMade}
+use Rattle.selection.specs.Selections.{AreApart, AreBetween, always_together, contiguous_runs, free_runs, granules_of_blocks, is_free_block}
 use Rattle.device_rules.proofs.Homes.{made_begins, made_granular, made_long, made_run}
-use Rattle.device_rules.proofs.ListSteps.{each-all, each-both, each-map, many, many-none}
+use Rattle.device_rules.{proofs.ListSteps.each-all, proofs.ListSteps.each-both, proofs.ListSteps.each-map, proofs.ListSteps.many, proofs.ListSteps.many-none, specs.Standing.IsMade}
 
 -- granules of the region, some and made of pieces of that size
 pub record IsBlockRun (c : Configuration) (size r : ℕ) (run : Run) : Type 0 where

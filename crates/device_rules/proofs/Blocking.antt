@@ -1,35 +1,19 @@
 -- Another block size of a region that is not in use keeps what every legal journal keeps: 5602h.
 use Rattle.std.proofs.Common.{◌≡◌, ℕ, zero, suc, ◌+◌, ◌<◌, ◌≤◌, Bool, true, false, not, ◌==◌, List, [], ◌∷◌, ◌++◌, length, map, None, Some, refl, ap, sym, subst, ◌∙◌, inl, inr, arith, leb, ltb}
-use Rattle.std.specs.Prelude.{if◌then◌else◌}
-use Rattle.std.specs.List.{AllByRecursion, range_with_len}
-use Rattle.std.proofs.lemmas.Bool.{cases_Bool, cases_lt, eqb-true, false≢true, leb-false, ltb-false, not-false, or_left}
-use Rattle.std.proofs.lemmas.List.Sums.{length-filter}
-use Rattle.cci_codec.specs.dcd_base.specs.declared.capacity.Extent.{Extent}
-use Rattle.cci_codec.specs.dcd_base.specs.declared.capacity.Tag.{Tag}
-use Rattle.cci_codec.specs.dcd_base.specs.declared.ids.HostId.{HostId}
+use Rattle.std.proofs.lemmas.{Bool.cases_Bool, Bool.cases_lt, Bool.eqb-true, Bool.false≢true, Bool.leb-false, Bool.ltb-false, Bool.not-false, Bool.or_left, List.Sums.length-filter}
+use Rattle.std.specs.{List.AllByRecursion, List.range_with_len, Prelude.if◌then◌else◌}
+use Rattle.cci_codec.specs.dcd_base.specs.{Words.flag_of, Words.has_granule, Words.has_in_runs, Words.has_tag, declared.capacity.Extent.Extent, declared.capacity.Tag.Tag, declared.ids.HostId.HostId}
 use Rattle.cci_codec.specs.dcd_base.specs.declared.media.Run.{Run}
-use Rattle.cci_codec.specs.dcd_base.specs.Words.{flag_of, has_granule, has_in_runs, has_tag}
-use Rattle.extent_list.specs.dcd_codes.specs.declared.rules.Rule.{Rule}
-use Rattle.extent_list.specs.dcd_codes.specs.Rules.{◌breaks◌, each_in}
+use Rattle.extent_list.specs.{dcd_codes.specs.Rules.◌breaks◌, dcd_codes.specs.Rules.each_in, dcd_codes.specs.declared.rules.Rule.Rule, media_map.specs.Places.run_of}
 use Rattle.extent_list.specs.media_map.specs.region_config.specs.Configurations.{Configuration}
-use Rattle.extent_list.specs.media_map.specs.region_config.specs.Soundness.{IsSound}
-use Rattle.extent_list.specs.media_map.specs.region_config.specs.Granules.{first_granule, region_granules, hosts_of, is_supported, region_spec}
-use Rattle.extent_list.specs.media_map.specs.Places.{run_of}
+use Rattle.extent_list.specs.media_map.specs.region_config.specs.{Granules.first_granule, Granules.region_granules, Granules.hosts_of, Granules.is_supported, Granules.region_spec, Soundness.IsSound}
 use Rattle.journal_core.specs.declared.outcome.Effect.{Effect}
-use Rattle.device_rules.specs.Outcomes.{effects_of, log_full}
+use Rattle.device_rules.proofs.{BlockRuns.block_run, FreeGranules.free_none, FreeGranules.free_untagged, FreeGranules.has-many, Holding.in_run, Holding.present_whole}
+use Rattle.device_rules.proofs.{ListSteps.each-both, ListSteps.each-change, ListSteps.many, OneOffer.stands_for, Overlaps.not_broken, Settling.outcome_keeps}
+use Rattle.device_rules.specs.{Outcomes.effects_of, Outcomes.log_full, Pictures.Picture, Pictures.extents_at, Pictures.picture_after, Pictures.picture_of}
 use Rattle.device_rules.specs.Settings.{in_use, no_such_region, set_outcome, set_rule}
-use Rattle.device_rules.specs.Tags.{is_free, status, tag_runs}
-use Rattle.device_rules.specs.Views.{View}
-use Rattle.device_rules.specs.Pictures.{Picture, extents_at, picture_after, picture_of}
-use Rattle.device_rules.specs.Standing.{IsHome, IsMade, IsOpen, IsUnder, Sound, Stands}
-use Rattle.device_rules.proofs.BlockRuns.{block_run}
-use Rattle.device_rules.proofs.FreeGranules.{free_none, free_untagged, has-many}
-use Rattle.device_rules.proofs.Holding.{in_run, present_whole}
-use Rattle.device_rules.proofs.ListSteps.{each-both, each-change, many}
-use Rattle.device_rules.proofs.OneOffer.{stands_for}
-use Rattle.device_rules.proofs.Overlaps.{not_broken}
+use Rattle.device_rules.specs.{Standing.IsHome, Standing.IsMade, Standing.IsOpen, Standing.IsUnder, Standing.Sound, Standing.Stands, Tags.is_free, Tags.status, Tags.tag_runs, Views.View}
 use Rattle.selection.proofs.Prescribed.{neither}
-use Rattle.device_rules.proofs.Settling.{outcome_keeps}
 
 -- where no number of a range passes, none does
 none_many : (p : ℕ → Bool) (a n k : ℕ) → many p (range_with_len a n) ≡ 0 → a ≤ k → k < a + n → p k ≡ false

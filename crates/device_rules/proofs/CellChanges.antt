@@ -1,27 +1,15 @@
 -- What the effects of a command make together of what is kept of one granule.
 use Rattle.std.proofs.Common.{◌≡◌, ℕ, Bool, true, false, ◌||◌, List, [], ◌∷◌, map, refl, ap, sym, ◌∙◌}
-use Rattle.std.specs.Prelude.{fold, if◌then◌else◌}
-use Rattle.std.specs.List.{AllByRecursion, list_all, list_any}
-use Rattle.std.proofs.lemmas.Bool.{false≢true}
-use Rattle.cci_codec.specs.dcd_base.specs.Words.{has_granule, has_in_runs}
-use Rattle.cci_codec.specs.dcd_base.specs.declared.capacity.Extent.{Extent}
-use Rattle.cci_codec.specs.dcd_base.specs.declared.capacity.Tag.{Tag}
-use Rattle.cci_codec.specs.dcd_base.specs.declared.ids.HostId.{HostId}
-use Rattle.cci_codec.specs.dcd_base.specs.declared.media.Run.{Run}
-use Rattle.granule_map.specs.declared.states.GranuleState.{GranuleState}
-use Rattle.granule_map.specs.Tables.{Cell, given, settled, soiled, zeroed}
+use Rattle.std.{specs.Prelude.fold, specs.Prelude.if◌then◌else◌, specs.List.AllByRecursion, specs.List.list_all, specs.List.list_any, proofs.lemmas.Bool.false≢true}
+use Rattle.cci_codec.specs.dcd_base.specs.{Words.has_granule, Words.has_in_runs, declared.capacity.Extent.Extent, declared.capacity.Tag.Tag, declared.ids.HostId.HostId, declared.media.Run.Run}
+use Rattle.granule_map.specs.{declared.states.GranuleState.GranuleState, Tables.Cell, Tables.given, Tables.settled, Tables.soiled, Tables.zeroed}
 use Rattle.journal_core.specs.declared.outcome.Effect.{Effect}
-use Rattle.extent_list.specs.media_map.specs.Places.{run_of}
-use Rattle.extent_list.specs.media_map.specs.region_config.specs.Configurations.{Configuration}
-use Rattle.extent_list.specs.media_map.specs.region_config.specs.Granules.{region_of, region_spec}
+use Rattle.extent_list.specs.media_map.specs.{Places.run_of, region_config.specs.Configurations.Configuration, region_config.specs.Granules.region_of, region_config.specs.Granules.region_spec}
 use Rattle.extent_list.specs.media_map.specs.region_config.specs.declared.region_spec.RegionSpec.{RegionSpec}
-use Rattle.device_rules.specs.ReleaseOutcomes.{removals}
-use Rattle.device_rules.proofs.ListSteps.{any-map, each-all, each-change}
-use Rattle.device_rules.proofs.Leaving.{is_quiet, over-leaving}
-use Rattle.device_rules.proofs.RunEffects.{in_extents, run_from, takes, zeros}
-use Rattle.device_rules.proofs.StatusTags.{ends}
+use Rattle.device_rules.proofs.{Leaving.is_quiet, Leaving.over-leaving, ListSteps.any-map, ListSteps.each-all, ListSteps.each-change}
+use Rattle.device_rules.proofs.{RunEffects.in_extents, RunEffects.run_from, RunEffects.takes, RunEffects.zeros, StatusTags.ends, WholeRuns.IsOneRun}
 use Rattle.device_rules.specs.GranuleCells.{cell_after, cell_over, ended_run, offered_extent, offered_run, unoffered_extent, unoffered_run}
-use Rattle.device_rules.proofs.WholeRuns.{IsOneRun}
+use Rattle.device_rules.specs.ReleaseOutcomes.{removals}
 
 -- a change that is made only here
 abbrev pub where_here : Bool → (Cell → Cell) → Cell → Cell

@@ -1,25 +1,16 @@
 -- A log that is cleared as its row allows stays one that its history tells.
 use Rattle.std.proofs.Common.{◌≡◌, ℕ, ◌≤◌, Bool, true, false, List, [], ◌∷◌, ◌++◌, length, Option, Some, None, inl, inr, refl, sym, ap, subst, ◌∙◌, arith}
+use Rattle.std.{proofs.lemmas.Bool.cases_Bool, proofs.lemmas.List.Sums.fold-append, proofs.lemmas.Option.none-some, specs.List.list_all}
 use Rattle.std.specs.Prelude.{fold, not, option_map, ◌==◌, if◌then◌else◌}
-use Rattle.std.specs.List.{list_all}
-use Rattle.std.proofs.lemmas.Bool.{cases_Bool}
-use Rattle.std.proofs.lemmas.List.Sums.{fold-append}
-use Rattle.std.proofs.lemmas.Option.{none-some}
 use Rattle.cci_codec.specs.dcd_base.specs.declared.steps.LogId.{LogId}
-use Rattle.extent_list.specs.dcd_codes.specs.Rules.{◌breaks◌}
-use Rattle.extent_list.specs.dcd_codes.specs.declared.rules.Rule.{Rule}
-use Rattle.event_log.proofs.Histories.{stays}
-use Rattle.event_log.specs.LogStates.{clear_fault, handle_fault}
-use Rattle.event_log.specs.declared.faults.ClearFault.{ClearFault}
-use Rattle.event_log.specs.Logs.{IsHistory, Log, cleared_of, empty_log, records_in, reset}
+use Rattle.extent_list.specs.{dcd_codes.specs.Rules.◌breaks◌, dcd_codes.specs.declared.rules.Rule.Rule, media_map.specs.region_config.proofs.Searches.or_parts}
+use Rattle.event_log.{proofs.Histories.stays, specs.LogStates.clear_fault, specs.LogStates.handle_fault}
+use Rattle.event_log.specs.{Logs.IsHistory, Logs.Log, Logs.cleared_of, Logs.empty_log, Logs.records_in, Logs.reset, declared.faults.ClearFault.ClearFault}
 use Rattle.event_records.specs.declared.events.Event.{Event}
 use Rattle.journal_core.specs.declared.outcome.Effect.{Effect}
-use Rattle.extent_list.specs.media_map.specs.region_config.proofs.Searches.{or_parts}
+use Rattle.device_rules.proofs.{LogHistories.one_log, LogSteps.same_log-self}
 use Rattle.device_rules.specs.EventCommands.{clear_changes, clear_rule, cleared, handles_rule, no_such_log, rule_of}
-use Rattle.device_rules.specs.Logs.{log_after, log_of, same_log}
-use Rattle.device_rules.proofs.LogHistories.{one_log}
-use Rattle.device_rules.specs.LogLaws.{spares_hosts}
-use Rattle.device_rules.proofs.LogSteps.{same_log-self}
+use Rattle.device_rules.specs.{LogLaws.spares_hosts, Logs.log_after, Logs.log_of, Logs.same_log}
 
 -- a fault breaks a rule
 no_fault : (fault : Option ClearFault) → option_map rule_of fault ≡ None → fault ≡ None

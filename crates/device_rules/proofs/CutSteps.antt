@@ -1,28 +1,15 @@
 -- What is left of a host's extents once one has left them.
 use Rattle.std.proofs.Common.{◌≡◌, ◌⊎◌, ℕ, ◌+◌, ◌-◌, ◌*◌, ◌/◌, ◌%◌, ◌<◌, ◌≤◌, Bool, true, false, ◌||◌, List, [], ◌∷◌, length, refl, ap, sym, subst, ◌∙◌, inl, inr, arith, leb, ltb, add-mul, div-add-mod', mul-le-mul_right, zero-mul}
-use Rattle.std.specs.Prelude.{if◌then◌else◌}
-use Rattle.std.specs.List.{AllByRecursion, list_any}
+use Rattle.std.{specs.Prelude.if◌then◌else◌, specs.List.AllByRecursion, specs.List.list_any, proofs.lemmas.List.Folds.list_any-append, proofs.Math.Nat.mul-mod_left}
 use Rattle.std.proofs.lemmas.Bool.{and_from, and_parts, cases_Bool, cases_lt, false≢true, false_from_ne_true, le-leb, le-ltb, leb-true, lt-ltb, ltb-true, or_from, or_left, or_right}
-use Rattle.std.proofs.lemmas.List.Folds.{list_any-append}
-use Rattle.cci_codec.specs.dcd_base.specs.declared.capacity.Extent.{Extent}
-use Rattle.cci_codec.specs.dcd_base.specs.declared.capacity.Tag.{Tag}
-use Rattle.cci_codec.specs.dcd_base.specs.declared.ids.HostId.{HostId}
-use Rattle.cci_codec.specs.dcd_base.specs.Words.{has_granule, same_tag}
+use Rattle.cci_codec.specs.dcd_base.specs.{declared.capacity.Extent.Extent, declared.capacity.Tag.Tag, declared.ids.HostId.HostId, Words.has_granule, Words.same_tag}
 use Rattle.extent_list.specs.ExtentLists.{cut, has_extent_of, has_range, is_in, lies_in, overlaps, piece, without}
-use Rattle.extent_list.specs.media_map.specs.region_config.specs.Configurations.{Configuration}
-use Rattle.extent_list.specs.media_map.specs.region_config.specs.Granules.{base_of, first_granule, granule_size}
-use Rattle.extent_list.specs.media_map.specs.region_config.specs.Soundness.{IsSound}
-use Rattle.extent_list.specs.media_map.specs.region_config.proofs.Faultless.{granule_from}
-use Rattle.extent_list.specs.media_map.specs.Places.{region_at, run_of}
-use Rattle.extent_list.specs.media_map.proofs.PlaceLemmas.{has}
-use Rattle.extent_list.specs.media_map.proofs.RunLemmas.{region_at_is}
-use Rattle.std.proofs.Math.Nat.{mul-mod_left}
-use Rattle.device_rules.specs.Pictures.{count_on}
-use Rattle.device_rules.specs.Standing.{IsMade}
+use Rattle.extent_list.specs.media_map.{proofs.PlaceLemmas.has, proofs.RunLemmas.region_at_is, specs.Places.region_at, specs.Places.run_of, specs.region_config.proofs.Faultless.granule_from}
+use Rattle.extent_list.specs.media_map.specs.region_config.specs.{Configurations.Configuration, Granules.base_of, Granules.first_granule, Granules.granule_size, Soundness.IsSound}
 use Rattle.device_rules.proofs.Homes.{made_begins, made_long, made_region}
 use Rattle.device_rules.proofs.ListSteps.{each-append, each-at, each-both, each-change, many, many-any, many-append, many-none}
-use Rattle.device_rules.proofs.OneOffer.{reaches}
-use Rattle.device_rules.proofs.Overlaps.{back_bytes, between, from_between, inside_has, no_common, reach_bytes}
+use Rattle.device_rules.proofs.{OneOffer.reaches, Overlaps.back_bytes, Overlaps.between, Overlaps.from_between, Overlaps.inside_has, Overlaps.no_common, Overlaps.reach_bytes}
+use Rattle.device_rules.specs.{Pictures.count_on, Standing.IsMade}
 
 -- ---- addresses
 

@@ -1,31 +1,20 @@
 -- A test that all effects of some kinds pass is passed by all effects of the commands that have no others.
 use Rattle.std.proofs.Common.{◌≡◌, ℕ, Bool, true, false, ◌&&◌, not, List, [], ◌∷◌, ◌++◌, length, refl, ap}
-use Rattle.std.specs.Prelude.{map, flat_map, ◌==◌, if◌then◌else◌}
-use Rattle.std.specs.List.{list_all}
-use Rattle.std.proofs.lemmas.Bool.{and_parts, false≢true}
-use Rattle.cci_codec.specs.dcd_base.specs.declared.capacity.Extent.{Extent}
-use Rattle.cci_codec.specs.dcd_base.specs.declared.capacity.Tag.{Tag}
-use Rattle.cci_codec.specs.dcd_base.specs.declared.ids.HostId.{HostId}
-use Rattle.cci_codec.specs.dcd_base.specs.declared.media.Run.{Run}
-use Rattle.cci_codec.specs.dcd_base.specs.declared.steps.LogId.{LogId}
+use Rattle.std.{specs.Prelude.map, specs.Prelude.flat_map, specs.Prelude.◌==◌, specs.Prelude.if◌then◌else◌, specs.List.list_all, proofs.lemmas.Bool.and_parts, proofs.lemmas.Bool.false≢true}
+use Rattle.cci_codec.specs.dcd_base.specs.declared.{capacity.Extent.Extent, capacity.Tag.Tag, ids.HostId.HostId, media.Run.Run, steps.LogId.LogId}
 use Rattle.event_log.specs.Logs.{Log, next_handle, records_in, room_in}
 use Rattle.event_records.specs.declared.events.Event.{Event}
-use Rattle.extent_list.specs.ExtentLists.{marked}
+use Rattle.extent_list.specs.{ExtentLists.marked, media_map.specs.Places.run_of, media_map.specs.region_config.specs.Configurations.Configuration}
+use Rattle.extent_list.specs.media_map.specs.region_config.specs.Granules.{same_region}
 use Rattle.granule_map.specs.Choices.{joined}
 use Rattle.host_payloads.specs.declared.requests.HostRequest.{HostRequest}
-use Rattle.journal_core.specs.declared.outcome.Effect.{Effect}
-use Rattle.journal_core.specs.declared.outcome.HeldKind.{HeldKind}
-use Rattle.extent_list.specs.media_map.specs.Places.{run_of}
-use Rattle.extent_list.specs.media_map.specs.region_config.specs.Configurations.{Configuration}
-use Rattle.device_rules.specs.Answers.{dropped, host_outcome, zeroes}
-use Rattle.extent_list.specs.media_map.specs.region_config.specs.Granules.{same_region}
-use Rattle.device_rules.specs.EventCommands.{clear_changes, cleared}
-use Rattle.device_rules.specs.Logs.{log_after, log_of}
+use Rattle.journal_core.specs.declared.outcome.{Effect.Effect, HeldKind.HeldKind}
+use Rattle.device_rules.{proofs.Leaving.both_pass, proofs.Leaving.map_passes, specs.Answers.dropped, specs.Answers.host_outcome, specs.Answers.zeroes}
+use Rattle.device_rules.specs.{EventCommands.clear_changes, EventCommands.cleared, Logs.log_after, Logs.log_of}
 use Rattle.device_rules.specs.Outcomes.{Outcome, effects_of, ended, entered, entered_all}
 use Rattle.device_rules.specs.ReleaseOutcomes.{give_back_changes, leaves, removals}
 use Rattle.device_rules.specs.ResponseOutcomes.{answered, hold, respond_changes, response_records, unhold}
 use Rattle.device_rules.specs.Views.{View, view_after}
-use Rattle.device_rules.proofs.Leaving.{both_pass, map_passes}
 
 -- records of a log, and its clearing
 pub record PassRecords (p : Effect → Bool) (l : LogId) : Type 0 where

@@ -1,23 +1,13 @@
 -- Which tags some effects end: just those that are open before them and not after.
 use Rattle.std.proofs.Common.{◌≡◌, Bool, true, false, ◌&&◌, ◌||◌, not, List, [], ◌∷◌, ◌++◌, map, refl, sym, ap, ◌∙◌}
-use Rattle.std.specs.Prelude.{flat_map, fold, if◌then◌else◌}
-use Rattle.std.specs.List.{list_all, list_any}
-use Rattle.std.proofs.lemmas.Bool.{and_from, and_parts, false≢true, false_from_ne_true, not_from_false, or_from, or_left}
-use Rattle.std.proofs.lemmas.List.Folds.{list_any-append}
-use Rattle.std.proofs.lemmas.List.Sums.{fold-append}
-use Rattle.cci_codec.specs.dcd_base.specs.declared.capacity.Tag.{Tag}
-use Rattle.cci_codec.specs.dcd_base.specs.Words.{has_tag, same_tag}
-use Rattle.extent_list.specs.media_map.specs.region_config.specs.Configurations.{Configuration}
-use Rattle.extent_list.specs.media_map.specs.region_config.specs.Granules.{region_spec}
-use Rattle.extent_list.specs.media_map.specs.Places.{region_at}
+use Rattle.std.proofs.lemmas.{Bool.and_from, Bool.and_parts, Bool.false≢true, Bool.false_from_ne_true, Bool.not_from_false, Bool.or_from, Bool.or_left, List.Folds.list_any-append}
+use Rattle.std.{proofs.lemmas.List.Sums.fold-append, specs.List.list_all, specs.List.list_any, specs.Prelude.flat_map, specs.Prelude.fold, specs.Prelude.if◌then◌else◌}
+use Rattle.cci_codec.specs.dcd_base.specs.{declared.capacity.Tag.Tag, Words.has_tag, Words.same_tag}
+use Rattle.extent_list.specs.media_map.specs.{region_config.specs.Configurations.Configuration, region_config.specs.Granules.region_spec, Places.region_at}
 use Rattle.journal_core.specs.declared.outcome.Effect.{Effect}
-use Rattle.device_rules.specs.Invariants.{is_end_of}
-use Rattle.device_rules.specs.Logs.{log_of}
-use Rattle.device_rules.specs.Outcomes.{Outcome, effects_of, ended, entered_all}
-use Rattle.device_rules.specs.Tags.{is_live, open_tags, tags_after}
-use Rattle.device_rules.proofs.Pictures.{picture-outcome}
-use Rattle.device_rules.proofs.TagSteps.{has_tag-filter, not_ended, open_still, without_tags}
-use Rattle.device_rules.proofs.EffectKinds.{any_log, told_passes, tells_any}
+use Rattle.device_rules.proofs.{EffectKinds.any_log, EffectKinds.told_passes, EffectKinds.tells_any, Pictures.picture-outcome}
+use Rattle.device_rules.{proofs.TagSteps.has_tag-filter, proofs.TagSteps.not_ended, proofs.TagSteps.open_still, proofs.TagSteps.without_tags, specs.Invariants.is_end_of, specs.Logs.log_of}
+use Rattle.device_rules.specs.{Outcomes.Outcome, Outcomes.effects_of, Outcomes.ended, Outcomes.entered_all, Tags.is_live, Tags.open_tags, Tags.tags_after}
 
 -- The effects end just the tags that are open before them and not after.
 abbrev pub EndsOpen : Configuration → List Effect → List Effect → Type 0

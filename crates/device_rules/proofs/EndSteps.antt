@@ -1,31 +1,16 @@
 -- The next entry of a legal journal ends just the tags that lived as shareable ones before it and do not after it.
 use Rattle.std.proofs.Common.{◌≡◌, true, ◌&&◌, not, List, [], ◌∷◌, ◌++◌, refl, sym, ap, ◌∙◌}
 use Rattle.std.specs.List.{list_all}
-use Rattle.cci_codec.specs.dcd_base.specs.declared.capacity.Tag.{Tag}
-use Rattle.cci_codec.specs.dcd_base.specs.declared.ids.HostId.{HostId}
-use Rattle.cci_codec.specs.dcd_base.specs.declared.steps.LogId.{LogId}
-use Rattle.cci_codec.specs.dcd_base.specs.Words.{has_tag}
+use Rattle.cci_codec.specs.dcd_base.specs.{declared.capacity.Tag.Tag, declared.ids.HostId.HostId, declared.steps.LogId.LogId, Words.has_tag}
 use Rattle.fm_payloads.specs.declared.requests.FmRequest.{FmRequest}
 use Rattle.host_payloads.specs.declared.requests.HostRequest.{HostRequest}
-use Rattle.extent_list.specs.media_map.specs.region_config.specs.Configurations.{Configuration}
-use Rattle.extent_list.specs.media_map.specs.region_config.specs.Soundness.{IsSound}
-use Rattle.journal_core.specs.declared.entries.Entry.{Entry}
-use Rattle.journal_core.specs.declared.outcome.Effect.{Effect}
-use Rattle.journal_core.specs.Entries.{effects}
-use Rattle.journal_core.proofs.EachSteps.{Each-push}
-use Rattle.journal_core.proofs.JournalSteps.{effects-push}
-use Rattle.device_rules.specs.Answers.{host_outcome, manager_outcome, scrubbed}
-use Rattle.device_rules.specs.Invariants.{EndsWithLife}
-use Rattle.device_rules.specs.Legal.{Legal, Meets}
-use Rattle.device_rules.specs.Logs.{log_of}
-use Rattle.device_rules.specs.ReleaseOutcomes.{is_cleaning, is_forced, removed}
-use Rattle.device_rules.specs.Tags.{is_live_shareable, is_referenced, open_tags}
-use Rattle.device_rules.specs.Views.{View, view_of}
-use Rattle.device_rules.proofs.LegalSound.{legal_is_sound}
-use Rattle.device_rules.proofs.OpenTags.{legal_is_opened, open_is_live}
+use Rattle.extent_list.specs.media_map.specs.region_config.specs.{Configurations.Configuration, Soundness.IsSound}
+use Rattle.journal_core.{specs.declared.entries.Entry.Entry, specs.declared.outcome.Effect.Effect, specs.Entries.effects, proofs.EachSteps.Each-push, proofs.JournalSteps.effects-push}
 use Rattle.device_rules.proofs.EffectKinds.{clear_passes, give_back_passes, reference_passes, removals_pass, respond_passes, unhold_passes, zeroes_pass}
-use Rattle.device_rules.proofs.LegalSteps.{Cases, step_case}
-use Rattle.device_rules.proofs.EndEffects.{EndsOpen, ends_none, outcome_ends, quiet_ends}
+use Rattle.device_rules.proofs.{EndEffects.EndsOpen, EndEffects.ends_none, EndEffects.outcome_ends, EndEffects.quiet_ends, LegalSound.legal_is_sound, LegalSteps.Cases, LegalSteps.step_case}
+use Rattle.device_rules.{proofs.OpenTags.legal_is_opened, proofs.OpenTags.open_is_live, specs.Answers.host_outcome, specs.Answers.manager_outcome, specs.Answers.scrubbed}
+use Rattle.device_rules.specs.{Invariants.EndsWithLife, Legal.Legal, Legal.Meets, Logs.log_of, ReleaseOutcomes.is_cleaning, ReleaseOutcomes.is_forced, ReleaseOutcomes.removed}
+use Rattle.device_rules.specs.{Tags.is_live_shareable, Tags.is_referenced, Tags.open_tags, Views.View, Views.view_of}
 
 -- ---- the changes of a command end no tag
 

@@ -1,34 +1,16 @@
 -- The invariant keeps holders apart, so that holding is exclusive at every moment of a legal journal.
 use Rattle.std.proofs.Common.{◌≡◌, ℕ, ◌<◌, Bool, true, false, ◌&&◌, ◌||◌, List, [], ◌∷◌, refl, ap, sym, subst, ◌∙◌, inl, inr, arith}
-use Rattle.std.specs.Prelude.{flat_map}
-use Rattle.std.specs.List.{AllByRecursion, filter, list_any}
-use Rattle.std.proofs.lemmas.Bool.{and_from, cases_Bool, cases_lt, false≢true, or_left, or_right}
-use Rattle.std.proofs.lemmas.List.Sums.{length-filter}
-use Rattle.cci_codec.specs.dcd_base.specs.declared.capacity.Extent.{Extent}
-use Rattle.cci_codec.specs.dcd_base.specs.declared.capacity.Tag.{Tag}
-use Rattle.cci_codec.specs.dcd_base.specs.declared.ids.HostId.{HostId}
-use Rattle.cci_codec.specs.dcd_base.specs.Words.{has_granule, has_tag, same_tag, zero_tag}
-use Rattle.extent_list.specs.media_map.specs.region_config.specs.Configurations.{Configuration}
-use Rattle.extent_list.specs.media_map.specs.region_config.specs.Granules.{region_of, region_spec}
-use Rattle.extent_list.specs.media_map.specs.region_config.specs.Soundness.{IsSound}
-use Rattle.extent_list.specs.media_map.specs.Places.{region_at, run_of}
-use Rattle.journal_core.specs.declared.entries.Entry.{Entry}
-use Rattle.journal_core.specs.declared.outcome.Effect.{Effect}
-use Rattle.journal_core.specs.Entries.{effects}
-use Rattle.journal_core.specs.Holders.{holds}
-use Rattle.journal_core.proofs.EachSteps.{Each-front}
-use Rattle.device_rules.specs.Invariants.{Holdings}
-use Rattle.device_rules.specs.Legal.{Apart, Exclusive, HasUnder, Legal, Meets}
-use Rattle.device_rules.specs.Pictures.{Picture, count_on, extents_at, picture_of}
+use Rattle.std.proofs.lemmas.{Bool.and_from, Bool.cases_Bool, Bool.cases_lt, Bool.false≢true, Bool.or_left, Bool.or_right, List.Sums.length-filter}
+use Rattle.std.specs.{List.AllByRecursion, List.filter, List.list_any, Prelude.flat_map}
+use Rattle.cci_codec.specs.dcd_base.specs.{declared.capacity.Extent.Extent, declared.capacity.Tag.Tag, declared.ids.HostId.HostId, Words.has_granule, Words.has_tag, Words.same_tag, Words.zero_tag}
+use Rattle.extent_list.specs.media_map.specs.{Places.region_at, Places.run_of, region_config.specs.Configurations.Configuration}
+use Rattle.extent_list.specs.media_map.specs.region_config.specs.{Granules.region_of, Granules.region_spec, Soundness.IsSound}
+use Rattle.journal_core.{specs.declared.entries.Entry.Entry, specs.declared.outcome.Effect.Effect, specs.Entries.effects, specs.Holders.holds, proofs.EachSteps.Each-front}
+use Rattle.device_rules.proofs.{FreeGranules.two-many, Holding.home_made, Holding.present_whole, Holding.sound_gives_holdings, Homes.made_of_region, LegalSound.legal_is_sound}
+use Rattle.device_rules.proofs.{ListSteps.any-map, ListSteps.each-both, ListSteps.each-change, ListSteps.each-front, ListSteps.many-any, ListSteps.many-append, OneAnswer.any-of-each}
+use Rattle.device_rules.{proofs.OneOffer.reaches, proofs.OneOffer.stands_for, proofs.TagSteps.same_tag-is, proofs.TagSteps.same_tag-self, specs.Invariants.Holdings}
+use Rattle.device_rules.specs.{Legal.Apart, Legal.Exclusive, Legal.HasUnder, Legal.Legal, Legal.Meets, Pictures.Picture, Pictures.count_on, Pictures.extents_at, Pictures.picture_of}
 use Rattle.device_rules.specs.Standing.{IsHome, IsUnder, Sound, Stands}
-use Rattle.device_rules.proofs.FreeGranules.{two-many}
-use Rattle.device_rules.proofs.Holding.{home_made, present_whole, sound_gives_holdings}
-use Rattle.device_rules.proofs.Homes.{made_of_region}
-use Rattle.device_rules.proofs.LegalSound.{legal_is_sound}
-use Rattle.device_rules.proofs.ListSteps.{any-map, each-both, each-change, each-front, many-any, many-append}
-use Rattle.device_rules.proofs.OneAnswer.{any-of-each}
-use Rattle.device_rules.proofs.OneOffer.{reaches, stands_for}
-use Rattle.device_rules.proofs.TagSteps.{same_tag-is, same_tag-self}
 
 -- of the tags one that passes, if any does
 some_tag : (test : Tag → Bool) (tags : List Tag) → list_any test tags ≡ true → (t : Tag) × (has_tag tags t ≡ true) × (test t ≡ true)

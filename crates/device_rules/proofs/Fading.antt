@@ -1,21 +1,13 @@
 -- A tag that lives before a step and after it lives all the while.
 use Rattle.std.proofs.Common.{◌≡◌, Bool, true, false, not, ◌&&◌, ◌||◌, ◌==◌, List, [], ◌∷◌, ◌++◌, refl, sym, ap, ◌∙◌, inl, inr, append_assoc, append-nil}
-use Rattle.std.specs.Prelude.{if◌then◌else◌}
-use Rattle.std.specs.List.{list_all, list_any}
 use Rattle.std.proofs.lemmas.Bool.{and_from, and_parts, cases_Bool, false≢true, or_left, or_right}
-use Rattle.cci_codec.specs.dcd_base.specs.declared.capacity.Tag.{Tag}
-use Rattle.cci_codec.specs.dcd_base.specs.declared.ids.HostId.{HostId}
-use Rattle.cci_codec.specs.dcd_base.specs.declared.media.Run.{Run}
-use Rattle.cci_codec.specs.dcd_base.specs.Words.{same_tag}
-use Rattle.extent_list.specs.ExtentLists.{cut, has_extent_of}
+use Rattle.std.specs.{List.list_all, List.list_any, Prelude.if◌then◌else◌}
+use Rattle.cci_codec.specs.dcd_base.specs.{declared.capacity.Tag.Tag, declared.ids.HostId.HostId, declared.media.Run.Run, Words.same_tag}
+use Rattle.extent_list.specs.{ExtentLists.cut, ExtentLists.has_extent_of, media_map.specs.Places.bytes_of_run, media_map.specs.Places.start_of}
 use Rattle.extent_list.specs.media_map.specs.region_config.specs.Configurations.{Configuration}
-use Rattle.extent_list.specs.media_map.specs.Places.{bytes_of_run, start_of}
 use Rattle.journal_core.specs.declared.outcome.Effect.{Effect}
-use Rattle.device_rules.specs.Tags.{is_in_shareable, is_live_shareable, tag_region}
-use Rattle.device_rules.specs.Pictures.{Picture, lives, picture_after, picture_of}
-use Rattle.device_rules.proofs.OpenLive.{has_cut, keeps, lives_less}
-use Rattle.device_rules.proofs.Pictures.{picture-append}
-use Rattle.device_rules.proofs.Quiet.{is_quiet, quiet_picture}
+use Rattle.device_rules.proofs.{OpenLive.has_cut, OpenLive.keeps, OpenLive.lives_less, Pictures.picture-append, Quiet.is_quiet, Quiet.quiet_picture}
+use Rattle.device_rules.specs.{Pictures.Picture, Pictures.lives, Pictures.picture_after, Pictures.picture_of, Tags.is_in_shareable, Tags.is_live_shareable, Tags.tag_region}
 
 -- whether the tag lives as a shareable one in the picture
 abbrev pub shares : Configuration → Tag → Picture → Bool

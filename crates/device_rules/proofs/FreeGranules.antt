@@ -1,31 +1,15 @@
 -- No extent and no open tag has a free granule; and a host without extents of an open tag has none of its granules.
 use Rattle.std.proofs.Common.{◌≡◌, ℕ, zero, suc, ◌+◌, ◌<◌, ◌≤◌, Bool, true, false, not, ◌&&◌, ◌||◌, List, [], ◌∷◌, map, refl, ap, sym, ◌∙◌, inl, inr, arith}
-use Rattle.std.specs.Prelude.{flat_map, if◌then◌else◌}
-use Rattle.std.specs.List.{AllByRecursion, list_any, range_with_len}
-use Rattle.std.proofs.lemmas.Bool.{cases_Bool, cases_lt, false≢true, or_from, or_parts}
-use Rattle.std.proofs.lemmas.List.Folds.{list_any-append}
-use Rattle.std.proofs.lemmas.List.Sums.{length-filter}
-use Rattle.cci_codec.specs.dcd_base.specs.declared.capacity.Extent.{Extent}
-use Rattle.cci_codec.specs.dcd_base.specs.declared.capacity.Tag.{Tag}
-use Rattle.cci_codec.specs.dcd_base.specs.declared.ids.HostId.{HostId}
-use Rattle.cci_codec.specs.dcd_base.specs.Words.{has_granule, has_in_runs, has_tag, same_tag}
-use Rattle.extent_list.specs.media_map.specs.region_config.specs.Configurations.{Configuration}
-use Rattle.extent_list.specs.media_map.specs.region_config.specs.Soundness.{IsSound}
-use Rattle.extent_list.specs.media_map.specs.region_config.specs.Granules.{region_of, region_spec}
-use Rattle.extent_list.specs.media_map.specs.Places.{region_at, run_of}
-use Rattle.extent_list.specs.ExtentLists.{has_extent_of}
-use Rattle.journal_core.specs.declared.outcome.Effect.{Effect}
-use Rattle.journal_core.specs.Holders.{holds, is_soiled, is_taken}
-use Rattle.device_rules.specs.Hosts.{offers_of}
+use Rattle.std.proofs.lemmas.{Bool.cases_Bool, Bool.cases_lt, Bool.false≢true, Bool.or_from, Bool.or_parts, List.Folds.list_any-append, List.Sums.length-filter}
+use Rattle.std.specs.{List.AllByRecursion, List.list_any, List.range_with_len, Prelude.flat_map, Prelude.if◌then◌else◌}
+use Rattle.cci_codec.specs.dcd_base.specs.{declared.capacity.Extent.Extent, declared.capacity.Tag.Tag, declared.ids.HostId.HostId, Words.has_granule, Words.has_in_runs, Words.has_tag, Words.same_tag}
+use Rattle.extent_list.specs.{ExtentLists.has_extent_of, media_map.specs.Places.region_at, media_map.specs.Places.run_of, media_map.specs.region_config.specs.Configurations.Configuration}
+use Rattle.extent_list.specs.media_map.specs.region_config.specs.{Granules.region_of, Granules.region_spec, Soundness.IsSound}
+use Rattle.journal_core.specs.{declared.outcome.Effect.Effect, Holders.holds, Holders.is_soiled, Holders.is_taken}
+use Rattle.device_rules.proofs.{Holding.home_made, Holding.present_whole, Homes.made_of_region, ListSteps.any-map, ListSteps.each-at, ListSteps.each-both, ListSteps.many, ListSteps.many-none}
+use Rattle.device_rules.{proofs.OneOffer.stands_for, proofs.Settling.each-tagged, proofs.TagSteps.same_tag-is, proofs.TagSteps.same_tag-self, specs.Hosts.offers_of}
+use Rattle.device_rules.specs.{Pictures.Picture, Pictures.count_on, Pictures.extents_at, Pictures.picture_of, Standing.IsHome, Standing.IsUnder, Standing.IsUnderTag, Standing.Stands}
 use Rattle.device_rules.specs.Tags.{Dirty, Free, Held, Offered, Tagged, is_free, is_held, is_offered, is_tagged, status}
-use Rattle.device_rules.specs.Pictures.{Picture, count_on, extents_at, picture_of}
-use Rattle.device_rules.specs.Standing.{IsHome, IsUnder, IsUnderTag, Stands}
-use Rattle.device_rules.proofs.Holding.{home_made, present_whole}
-use Rattle.device_rules.proofs.Homes.{made_of_region}
-use Rattle.device_rules.proofs.ListSteps.{any-map, each-at, each-both, many, many-none}
-use Rattle.device_rules.proofs.OneOffer.{stands_for}
-use Rattle.device_rules.proofs.Settling.{each-tagged}
-use Rattle.device_rules.proofs.TagSteps.{same_tag-is, same_tag-self}
 
 -- which tests a free granule fails
 free_cond : (held offered tagged dirty : Bool) → is_free (if held then Held else if offered then Offered else if tagged then Tagged else if dirty then Dirty else Free) ≡ true → (held ≡ false) × (offered ≡ false) × (tagged ≡ false)

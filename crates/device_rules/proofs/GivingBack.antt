@@ -1,45 +1,21 @@
 -- A 4803h or a 5605h that breaks no rule keeps what every legal journal keeps.
 use Rattle.std.proofs.Common.{◌≡◌, ◌⊎◌, ℕ, ◌<◌, ◌≤◌, Bool, true, false, not, ◌&&◌, ◌==◌, List, [], ◌∷◌, ◌++◌, length, map, None, refl, ap, sym, subst, ◌∙◌, inl, inr, arith, leb, ltb, length-append}
-use Rattle.std.specs.Prelude.{flat_map, if◌then◌else◌}
-use Rattle.std.specs.List.{AllByRecursion, filter, list_all, list_any}
-use Rattle.std.proofs.lemmas.Bool.{cases_Bool, leb-false, ltb-false, or_left, or_right}
-use Rattle.std.proofs.lemmas.List.Concat.{length-flat_map}
-use Rattle.cci_codec.specs.dcd_base.specs.declared.capacity.Extent.{Extent}
-use Rattle.cci_codec.specs.dcd_base.specs.declared.capacity.Tag.{Tag}
-use Rattle.cci_codec.specs.dcd_base.specs.declared.ids.HostId.{HostId}
-use Rattle.cci_codec.specs.dcd_base.specs.Limits.{extents_supported}
-use Rattle.cci_codec.specs.dcd_base.specs.Words.{◌or◌, has_tag, same_tag}
-use Rattle.extent_list.specs.dcd_codes.specs.declared.rules.Rule.{Rule}
-use Rattle.extent_list.specs.dcd_codes.specs.Rules.{◌breaks◌, each_in}
+use Rattle.std.proofs.lemmas.{Bool.cases_Bool, Bool.leb-false, Bool.ltb-false, Bool.or_left, Bool.or_right, List.Concat.length-flat_map}
+use Rattle.std.specs.{List.AllByRecursion, List.filter, List.list_all, List.list_any, Prelude.flat_map, Prelude.if◌then◌else◌}
+use Rattle.cci_codec.specs.dcd_base.specs.{declared.capacity.Extent.Extent, declared.capacity.Tag.Tag, declared.ids.HostId.HostId, Limits.extents_supported, Words.◌or◌, Words.has_tag, Words.same_tag}
 use Rattle.extent_list.specs.ExtentLists.{count_in, has_extent_of, is_whole, marked, owner_of, tags_of}
-use Rattle.extent_list.specs.Listing.{incomplete, too_many_extents, too_many_listed}
-use Rattle.extent_list.specs.media_map.specs.region_config.specs.Configurations.{Configuration}
-use Rattle.extent_list.specs.media_map.specs.region_config.specs.Soundness.{IsSound}
-use Rattle.extent_list.specs.media_map.specs.region_config.specs.Granules.{region_spec, with_blocks}
-use Rattle.extent_list.specs.media_map.specs.Places.{region_at, run_of}
-use Rattle.journal_core.specs.declared.entries.Entry.{Entry}
-use Rattle.journal_core.specs.declared.outcome.Effect.{Effect}
-use Rattle.journal_core.specs.declared.outcome.HeldKind.{HeldKind}
-use Rattle.journal_core.specs.Entries.{effects}
-use Rattle.release_core.specs.Leaving.{count_after}
-use Rattle.release_core.specs.Releases.{give_back_rule}
-use Rattle.release_core.specs.Removals.{by_tag_rule, prescribed_removal_rule, extents_of_tag}
-use Rattle.device_rules.specs.Outcomes.{effects_of, log_full}
+use Rattle.extent_list.specs.{Listing.incomplete, Listing.too_many_extents, Listing.too_many_listed, dcd_codes.specs.Rules.◌breaks◌, dcd_codes.specs.Rules.each_in}
+use Rattle.extent_list.specs.{dcd_codes.specs.declared.rules.Rule.Rule, media_map.specs.Places.region_at, media_map.specs.Places.run_of}
+use Rattle.extent_list.specs.media_map.specs.region_config.specs.{Configurations.Configuration, Granules.region_spec, Granules.with_blocks, Soundness.IsSound}
+use Rattle.journal_core.specs.{declared.entries.Entry.Entry, declared.outcome.Effect.Effect, declared.outcome.HeldKind.HeldKind, Entries.effects}
+use Rattle.release_core.specs.{Leaving.count_after, Releases.give_back_rule, Removals.by_tag_rule, Removals.prescribed_removal_rule, Removals.extents_of_tag}
+use Rattle.device_rules.proofs.{AllLeave.all_leave, Going.IsGoing, Going.going_ready, Going.own_whole, Going.some_going, Going.some_owned}
+use Rattle.device_rules.proofs.{LeftStanding.going_of, LeftStanding.going_rule, LeftStanding.left_lives, LeftStanding.left_stands, LeftStanding.marked_has, ListSteps.each-change}
+use Rattle.device_rules.proofs.{OneAnswer.tags_of-has, OneLeave.loose, Overlaps.not_broken, Quiet.hold_quiet, Quiet.is_quiet, Quiet.quiet_front, Quiet.quiet_outcome_keeps, Quiet.unhold_quiet}
+use Rattle.device_rules.{proofs.Settling.outcome_keeps, specs.Outcomes.effects_of, specs.Outcomes.log_full}
+use Rattle.device_rules.specs.{Pictures.Picture, Pictures.lives, Pictures.picture_after, Pictures.picture_of, ResponseOutcomes.unhold, Standing.Sound, Standing.Stands, Views.View, Views.view_of}
 use Rattle.device_rules.specs.ReleaseOutcomes.{give_back_outcome, is_cleaning, is_forced, leaves, policy_in, removals, remove_outcome, remove_rule, removed, soils}
-use Rattle.device_rules.specs.ResponseOutcomes.{unhold}
-use Rattle.device_rules.specs.Views.{View, view_of}
-use Rattle.device_rules.specs.Pictures.{Picture, lives, picture_after, picture_of}
-use Rattle.device_rules.specs.Standing.{Sound, Stands}
-use Rattle.device_rules.proofs.AllLeave.{all_leave}
-use Rattle.device_rules.proofs.Going.{IsGoing, going_ready, own_whole, some_going, some_owned}
-use Rattle.device_rules.proofs.LeftStanding.{going_of, going_rule, left_lives, left_stands, marked_has}
-use Rattle.device_rules.proofs.ListSteps.{each-change}
-use Rattle.device_rules.proofs.OneAnswer.{tags_of-has}
-use Rattle.device_rules.proofs.OneLeave.{loose}
-use Rattle.device_rules.proofs.Overlaps.{not_broken}
 use Rattle.selection.proofs.Prescribed.{neither}
-use Rattle.device_rules.proofs.Quiet.{hold_quiet, is_quiet, quiet_front, quiet_outcome_keeps, unhold_quiet}
-use Rattle.device_rules.proofs.Settling.{outcome_keeps}
 
 -- leaves are removals that do not clean
 pub leaves_are : (c : Configuration) (h : HostId) (xs : List Extent) → removals c h false xs ≡ leaves c h xs

@@ -1,34 +1,20 @@
 -- The table after a response, a release and a removal that break no rule: 4802h, 4803h and 5605h.
 use Rattle.std.proofs.Common.{◌≡◌, ℕ, ◌<◌, true, false, ◌==◌, List, ◌++◌, None, refl, sym, ap, subst, ◌∙◌}
 use Rattle.std.proofs.lemmas.Bool.{false≢true}
-use Rattle.cci_codec.specs.dcd_base.specs.declared.capacity.Extent.{Extent}
-use Rattle.cci_codec.specs.dcd_base.specs.declared.capacity.Tag.{Tag}
-use Rattle.cci_codec.specs.dcd_base.specs.declared.ids.HostId.{HostId}
+use Rattle.cci_codec.specs.dcd_base.specs.declared.{capacity.Extent.Extent, capacity.Tag.Tag, ids.HostId.HostId}
 use Rattle.fm_payloads.specs.declared.requests.FmRequest.{FmRequest}
 use Rattle.host_payloads.specs.declared.requests.HostRequest.{HostRequest}
-use Rattle.journal_core.specs.Entries.{effects}
-use Rattle.journal_core.specs.declared.entries.Entry.{Entry}
-use Rattle.journal_core.specs.declared.outcome.Effect.{Effect}
-use Rattle.extent_list.specs.media_map.specs.region_config.specs.Configurations.{Configuration}
-use Rattle.extent_list.specs.media_map.specs.region_config.specs.Soundness.{IsSound}
+use Rattle.journal_core.specs.{Entries.effects, declared.entries.Entry.Entry, declared.outcome.Effect.Effect}
+use Rattle.extent_list.specs.media_map.specs.region_config.specs.{Configurations.Configuration, Soundness.IsSound}
 use Rattle.tag_refs.specs.declared.entries.TagEntry.{TagEntry}
-use Rattle.device_rules.specs.Answers.{host_outcome, host_rule, manager_outcome, manager_rule}
-use Rattle.device_rules.specs.Legal.{Legal}
-use Rattle.device_rules.specs.Outcomes.{Outcome}
-use Rattle.device_rules.specs.ReleaseOutcomes.{give_back_outcome, is_cleaning, is_forced, policy_in, remove_outcome}
-use Rattle.device_rules.specs.ResponseOutcomes.{respond_outcome}
-use Rattle.device_rules.specs.Views.{View, view_of}
-use Rattle.device_rules.specs.Pictures.{Picture, picture_after, picture_of}
-use Rattle.device_rules.specs.Standing.{Sound}
-use Rattle.device_rules.proofs.LegalSound.{legal_is_sound}
-use Rattle.device_rules.proofs.Pictures.{picture-append}
-use Rattle.device_rules.specs.QuietRequests.{is_quiet_host}
-use Rattle.device_rules.specs.TagTableSteps.{IsHostOfTagsSet, SetsHostOfTags}
-use Rattle.device_rules.specs.Tabled.{HostDoes, RemovalDoes, Tabled}
-use Rattle.device_rules.specs.TagTable.{IsTable}
-use Rattle.device_rules.proofs.LeavingSteps.{IsGone, release_told, removal_row, removal_told}
-use Rattle.device_rules.proofs.ResponseSteps.{response_tags, response_told}
 use Rattle.device_rules.proofs.HostOfTagsSet.{Told, ended_after_set, table_after_set}
+use Rattle.device_rules.proofs.{LeavingSteps.IsGone, LeavingSteps.release_told, LeavingSteps.removal_row, LeavingSteps.removal_told, LegalSound.legal_is_sound, Pictures.picture-append}
+use Rattle.device_rules.proofs.ResponseSteps.{response_tags, response_told}
+use Rattle.device_rules.specs.{Answers.host_outcome, Answers.host_rule, Answers.manager_outcome, Answers.manager_rule, Legal.Legal, Outcomes.Outcome}
+use Rattle.device_rules.specs.{Pictures.Picture, Pictures.picture_after, Pictures.picture_of, QuietRequests.is_quiet_host}
+use Rattle.device_rules.specs.ReleaseOutcomes.{give_back_outcome, is_cleaning, is_forced, policy_in, remove_outcome}
+use Rattle.device_rules.specs.{ResponseOutcomes.respond_outcome, Standing.Sound, Tabled.HostDoes, Tabled.RemovalDoes, Tabled.Tabled, TagTable.IsTable}
+use Rattle.device_rules.specs.{TagTableSteps.IsHostOfTagsSet, TagTableSteps.SetsHostOfTags, Views.View, Views.view_of}
 
 -- a command that leaves what the tags have that may not end
 anew_of : (c : Configuration) (past : List Effect) → Sound c (picture_of c past) → (o : Outcome) (h : HostId) → h < c.hosts →

@@ -2,24 +2,12 @@
 use Rattle.std.proofs.Common.{◌≡◌, ℕ, ◌+◌, ◌%◌, ◌<◌, ◌≤◌, Bool, true, false, List, [], ◌∷◌, length, refl, ap, sym, ◌∙◌, inl, inr, arith, eqb, leb}
 use Rattle.std.specs.List.{AllByRecursion, filter, list_any}
 use Rattle.std.proofs.lemmas.Bool.{and_from, and_parts, cases_Bool, eq-eqb, eqb-true, false≢true, false_from_ne_true, le-leb, or_left, or_right}
-use Rattle.cci_codec.specs.dcd_base.specs.declared.capacity.Extent.{Extent}
-use Rattle.cci_codec.specs.dcd_base.specs.declared.ids.HostId.{HostId}
-use Rattle.cci_codec.specs.dcd_base.specs.Words.{has_granule}
-use Rattle.extent_list.specs.ExtentLists.{is_in, is_whole, lies_in, overlaps, owner_of}
-use Rattle.extent_list.specs.media_map.specs.region_config.specs.Configurations.{Configuration}
-use Rattle.extent_list.specs.media_map.specs.region_config.specs.Soundness.{IsSound}
-use Rattle.extent_list.specs.media_map.specs.region_config.specs.Granules.{granule_size, region_spec}
-use Rattle.extent_list.specs.media_map.specs.Places.{region_at, run_of}
-use Rattle.device_rules.specs.Pictures.{Picture, count_on}
-use Rattle.device_rules.specs.Standing.{IsMade}
-use Rattle.device_rules.proofs.AllLeave.{Behind, IsOwner, IsReady}
-use Rattle.device_rules.proofs.BlockRuns.{block_run}
-use Rattle.device_rules.proofs.CutSteps.{in_has}
-use Rattle.device_rules.proofs.Holding.{in_run}
-use Rattle.device_rules.proofs.ListSteps.{each-both, each-change, many-any}
-use Rattle.device_rules.proofs.OneLeave.{Loose, accepted_made, accepted_once, whole_blocks}
-use Rattle.device_rules.proofs.OneOffer.{reaches}
-use Rattle.device_rules.proofs.Overlaps.{common, inside_has}
+use Rattle.cci_codec.specs.dcd_base.specs.{declared.capacity.Extent.Extent, declared.ids.HostId.HostId, Words.has_granule}
+use Rattle.extent_list.specs.{ExtentLists.is_in, ExtentLists.is_whole, ExtentLists.lies_in, ExtentLists.overlaps, ExtentLists.owner_of, media_map.specs.Places.region_at, media_map.specs.Places.run_of}
+use Rattle.extent_list.specs.media_map.specs.region_config.specs.{Configurations.Configuration, Granules.granule_size, Granules.region_spec, Soundness.IsSound}
+use Rattle.device_rules.proofs.{AllLeave.Behind, AllLeave.IsOwner, AllLeave.IsReady, BlockRuns.block_run, CutSteps.in_has, Holding.in_run}
+use Rattle.device_rules.proofs.{ListSteps.each-both, ListSteps.each-change, ListSteps.many-any, OneLeave.Loose, OneLeave.accepted_made, OneLeave.accepted_once, OneLeave.whole_blocks, OneOffer.reaches}
+use Rattle.device_rules.{proofs.Overlaps.common, proofs.Overlaps.inside_has, specs.Pictures.Picture, specs.Pictures.count_on, specs.Standing.IsMade}
 
 -- whether the extents may leave: each lies in an accepted one, no two share an address, and where the region is
 -- shareable each is a whole accepted one

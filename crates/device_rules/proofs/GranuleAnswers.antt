@@ -1,39 +1,18 @@
 -- What is kept of a granule stays right when an offer is answered and what was accepted is taken.
 use Rattle.std.proofs.Common.{◌≡◌, ℕ, ◌<◌, Bool, true, false, ◌&&◌, ◌||◌, List, ◌∷◌, ◌++◌, inl, inr, refl, sym, ap, subst, ◌∙◌}
-use Rattle.std.specs.Prelude.{fold, if◌then◌else◌}
-use Rattle.std.specs.List.{AllByRecursion, list_all}
-use Rattle.std.proofs.lemmas.Bool.{cases_Bool, false≢true}
-use Rattle.cci_codec.specs.dcd_base.specs.declared.capacity.Extent.{Extent}
-use Rattle.cci_codec.specs.dcd_base.specs.declared.capacity.Tag.{Tag}
-use Rattle.cci_codec.specs.dcd_base.specs.declared.ids.HostId.{HostId}
-use Rattle.cci_codec.specs.dcd_base.specs.declared.media.Run.{Run}
-use Rattle.granule_map.specs.declared.states.GranuleState.{GranuleState}
-use Rattle.granule_map.specs.Tables.{Cell, settled}
-use Rattle.journal_core.specs.Entries.{effects}
-use Rattle.journal_core.specs.Holders.{is_soiled, is_taken}
-use Rattle.journal_core.specs.declared.entries.Entry.{Entry}
-use Rattle.journal_core.specs.declared.outcome.Effect.{Effect}
+use Rattle.std.{specs.Prelude.fold, specs.Prelude.if◌then◌else◌, specs.List.AllByRecursion, specs.List.list_all, proofs.lemmas.Bool.cases_Bool, proofs.lemmas.Bool.false≢true}
+use Rattle.cci_codec.specs.dcd_base.specs.declared.{capacity.Extent.Extent, capacity.Tag.Tag, ids.HostId.HostId, media.Run.Run}
+use Rattle.granule_map.specs.{declared.states.GranuleState.GranuleState, Tables.Cell, Tables.settled}
+use Rattle.journal_core.specs.{Entries.effects, Holders.is_soiled, Holders.is_taken, declared.entries.Entry.Entry, declared.outcome.Effect.Effect}
 use Rattle.offer_core.specs.Offerings.{oldest_of}
-use Rattle.extent_list.specs.media_map.specs.region_config.specs.Configurations.{Configuration}
-use Rattle.extent_list.specs.media_map.specs.region_config.specs.Granules.{region_of, region_spec}
-use Rattle.extent_list.specs.media_map.specs.region_config.specs.Soundness.{IsSound}
-use Rattle.extent_list.specs.media_map.specs.region_config.specs.declared.region_spec.RegionSpec.{RegionSpec}
-use Rattle.device_rules.specs.Hosts.{offers_of}
-use Rattle.device_rules.specs.Invariants.{Holdings}
-use Rattle.device_rules.specs.Tags.{is_tagged, status}
-use Rattle.device_rules.specs.Pictures.{picture_of}
-use Rattle.device_rules.specs.Standing.{Stands}
-use Rattle.device_rules.proofs.Leaving.{after_front, is_quiet}
-use Rattle.device_rules.proofs.RunEffects.{in_extents, takes}
-use Rattle.device_rules.proofs.StatusParts.{tagged_still}
-use Rattle.device_rules.proofs.StatusAnswers.{answering, soiled-answer, status-answer_shared, status-taken, status-unanswered, taken-answer}
-use Rattle.device_rules.proofs.StatusKept.{status-declined_kept}
-use Rattle.device_rules.specs.GranuleCells.{IsCell, cell_after, cell_over, is_unclean, status_of, unoffered_extent}
-use Rattle.device_rules.specs.GranuleTable.{AreKnown}
+use Rattle.extent_list.specs.media_map.specs.region_config.specs.{Configurations.Configuration, Granules.region_of, Granules.region_spec, Soundness.IsSound, declared.region_spec.RegionSpec.RegionSpec}
 use Rattle.device_rules.proofs.CellChanges.{cell_quiet, cell_takes, cell_unoffer, left_as, taken_as, where_here}
-use Rattle.device_rules.proofs.GranuleEnds.{private_untagged}
-use Rattle.device_rules.proofs.GranuleSteps.{Keeps, settled_status, unclean_by}
-use Rattle.device_rules.proofs.WholeRuns.{IsOneRun}
+use Rattle.device_rules.proofs.{GranuleEnds.private_untagged, GranuleSteps.Keeps, GranuleSteps.settled_status, GranuleSteps.unclean_by, Leaving.after_front, Leaving.is_quiet}
+use Rattle.device_rules.proofs.RunEffects.{in_extents, takes}
+use Rattle.device_rules.proofs.StatusAnswers.{answering, soiled-answer, status-answer_shared, status-taken, status-unanswered, taken-answer}
+use Rattle.device_rules.proofs.{StatusKept.status-declined_kept, StatusParts.tagged_still, WholeRuns.IsOneRun}
+use Rattle.device_rules.specs.GranuleCells.{IsCell, cell_after, cell_over, is_unclean, status_of, unoffered_extent}
+use Rattle.device_rules.specs.{GranuleTable.AreKnown, Hosts.offers_of, Invariants.Holdings, Pictures.picture_of, Standing.Stands, Tags.is_tagged, Tags.status}
 
 -- ---- what an answer makes of it
 

@@ -1,78 +1,33 @@
 -- What is kept of a granule stays right over each step of a legal journal, command by command.
 use Rattle.std.proofs.Common.{◌≡◌, ℕ, ◌%◌, ◌<◌, Bool, true, false, not, ◌&&◌, ◌==◌, List, [], ◌∷◌, ◌++◌, length, map, None, inl, inr, refl, sym, ap, subst, ◌∙◌, arith, leb, ltb}
-use Rattle.std.specs.Prelude.{flat_map, if◌then◌else◌}
-use Rattle.std.specs.List.{AllByRecursion, list_all, list_any}
-use Rattle.std.proofs.lemmas.Bool.{cases_Bool, false≢true, leb-false, or_left, or_right}
-use Rattle.std.proofs.lemmas.List.Folds.{list_any-append}
-use Rattle.cci_codec.specs.dcd_base.specs.Words.{◌or◌, has_granule, same_tag, where_true}
-use Rattle.cci_codec.specs.dcd_base.specs.declared.capacity.Extent.{Extent}
-use Rattle.cci_codec.specs.dcd_base.specs.declared.capacity.Tag.{Tag}
-use Rattle.cci_codec.specs.dcd_base.specs.declared.ids.HostId.{HostId}
-use Rattle.cci_codec.specs.dcd_base.specs.declared.media.Run.{Run}
-use Rattle.cci_codec.specs.dcd_base.specs.declared.steps.LogId.{LogId}
-use Rattle.extent_list.specs.dcd_codes.specs.declared.rules.Rule.{Rule}
-use Rattle.extent_list.specs.dcd_codes.specs.Rules.{◌breaks◌, each_in}
-use Rattle.extent_list.specs.ExtentLists.{count_in, is_in, marked}
+use Rattle.std.proofs.lemmas.{Bool.cases_Bool, Bool.false≢true, Bool.leb-false, Bool.or_left, Bool.or_right, List.Folds.list_any-append}
+use Rattle.std.specs.{List.AllByRecursion, List.list_all, List.list_any, Prelude.flat_map, Prelude.if◌then◌else◌}
+use Rattle.cci_codec.specs.dcd_base.specs.{Words.◌or◌, Words.has_granule, Words.same_tag, Words.where_true, declared.capacity.Extent.Extent, declared.capacity.Tag.Tag, declared.ids.HostId.HostId}
+use Rattle.cci_codec.specs.dcd_base.specs.declared.{media.Run.Run, steps.LogId.LogId}
+use Rattle.extent_list.specs.{ExtentLists.count_in, ExtentLists.is_in, ExtentLists.marked, Listing.incomplete, Listing.too_many_extents, Listing.too_many_listed}
+use Rattle.extent_list.specs.{dcd_codes.specs.Rules.◌breaks◌, dcd_codes.specs.Rules.each_in, dcd_codes.specs.declared.rules.Rule.Rule, media_map.specs.Places.region_at, media_map.specs.Places.run_of}
+use Rattle.extent_list.specs.media_map.specs.region_config.specs.{Configurations.Configuration, Granules.granule_size, Granules.region_of, Granules.region_spec, Granules.with_blocks}
+use Rattle.extent_list.specs.media_map.specs.region_config.specs.Soundness.{IsSound}
 use Rattle.fm_payloads.specs.declared.requests.FmRequest.{FmRequest}
 use Rattle.host_payloads.specs.declared.requests.HostRequest.{HostRequest}
-use Rattle.journal_core.proofs.JournalSteps.{effects-push}
-use Rattle.journal_core.specs.Entries.{effects}
-use Rattle.journal_core.specs.declared.entries.Entry.{Entry}
-use Rattle.journal_core.specs.declared.outcome.Effect.{Effect}
-use Rattle.journal_core.specs.declared.outcome.HeldKind.{HeldKind}
-use Rattle.extent_list.specs.Listing.{incomplete, too_many_extents, too_many_listed}
-use Rattle.extent_list.specs.media_map.specs.Places.{region_at, run_of}
-use Rattle.offer_core.specs.Offerings.{oldest_of}
-use Rattle.offer_core.specs.Responses.{response_list_rule, respond_rule}
-use Rattle.extent_list.specs.media_map.specs.region_config.specs.Configurations.{Configuration}
-use Rattle.extent_list.specs.media_map.specs.region_config.specs.Granules.{granule_size, region_of, region_spec, with_blocks}
-use Rattle.extent_list.specs.media_map.specs.region_config.specs.Soundness.{IsSound}
-use Rattle.release_core.specs.Leaving.{count_after}
-use Rattle.release_core.specs.Removals.{by_tag_rule, prescribed_removal_rule, extents_of_tag}
-use Rattle.device_rules.specs.Adding.{add_outcome, add_rule, offered}
-use Rattle.device_rules.specs.Answers.{host_outcome, host_rule, manager_outcome, manager_rule}
-use Rattle.device_rules.specs.EventCommands.{clear_outcome}
-use Rattle.device_rules.specs.Hosts.{offers_of}
-use Rattle.device_rules.specs.Invariants.{Holdings}
-use Rattle.device_rules.specs.Legal.{Legal, Meets}
-use Rattle.device_rules.specs.Logs.{log_of}
-use Rattle.device_rules.specs.Outcomes.{Outcome, effects_of, log_full}
+use Rattle.journal_core.{proofs.JournalSteps.effects-push, specs.Entries.effects, specs.declared.entries.Entry.Entry, specs.declared.outcome.Effect.Effect, specs.declared.outcome.HeldKind.HeldKind}
+use Rattle.offer_core.specs.{Offerings.oldest_of, Responses.response_list_rule, Responses.respond_rule}
+use Rattle.release_core.specs.{Leaving.count_after, Removals.by_tag_rule, Removals.prescribed_removal_rule, Removals.extents_of_tag}
+use Rattle.device_rules.proofs.{Adding.IsAdded, Adding.added, Adding.row_of, CutSteps.in_has, ExclusiveHolding.legal_holdings, Going.IsGoing, Going.some_going, GranuleAnswers.keeps_answer}
+use Rattle.device_rules.proofs.{GranuleEnds.keeps_command, GranuleLeaves.claimed_tagged, GranuleLeaves.keeps_removal, GranuleOffers.keeps_offer}
+use Rattle.device_rules.proofs.{GranuleSteps.Keeps, GranuleSteps.keeps_outcome, GranuleSteps.keeps_quiet, GranuleZeros.keeps_scrub, Holding.home_made, Holding.present_whole}
+use Rattle.device_rules.proofs.{Leaving.both_pass, Leaving.is_quiet, Leaving.leaves_tags, LeftStanding.going_of, LeftStanding.going_rule, LegalSound.legal_is_sound, LegalSteps.step_case}
+use Rattle.device_rules.proofs.{ListSteps.any-map, ListSteps.each-back, ListSteps.each-change, ListSteps.each-front, ListSteps.each-map, OneAnswer.IsAnswer, OneLeave.accepted_made, OneLeave.loose}
+use Rattle.device_rules.proofs.{OneOffer.reaches, Overlaps.not_broken, Responding.answer_of, RunEffects.in_extents, RunEffects.removals-leaves, StatusOutcomes.unhold-quiet, WholeRuns.each_one_run}
+use Rattle.device_rules.specs.{Adding.add_outcome, Adding.add_rule, Adding.offered, Answers.host_outcome, Answers.host_rule, Answers.manager_outcome, Answers.manager_rule, EventCommands.clear_outcome}
+use Rattle.device_rules.specs.{GranuleCells.IsCell, GranuleCells.cell_over, GranuleTable.AreKnown, GranuleTable.StaysRight, Hosts.offers_of, Invariants.Holdings, Legal.Legal, Legal.Meets, Logs.log_of}
+use Rattle.device_rules.specs.{Outcomes.Outcome, Outcomes.effects_of, Outcomes.log_full, Pictures.Picture, Pictures.extents_at, Pictures.picture_of}
 use Rattle.device_rules.specs.ReleaseOutcomes.{give_back_outcome, is_cleaning, is_forced, policy_in, removals, remove_outcome, remove_rule, removed}
-use Rattle.device_rules.specs.ResponseOutcomes.{respond_changes, respond_outcome, unhold}
-use Rattle.device_rules.specs.Settings.{set_outcome}
-use Rattle.device_rules.specs.TagCommands.{add_reference_outcome, remove_reference_outcome}
-use Rattle.device_rules.specs.Tags.{is_referenced, is_tagged}
-use Rattle.device_rules.specs.Views.{View, view_of}
-use Rattle.device_rules.specs.Pictures.{Picture, extents_at, picture_of}
-use Rattle.device_rules.specs.Standing.{IsHome, IsMade, Sound, Stands}
-use Rattle.device_rules.proofs.Adding.{IsAdded, added, row_of}
-use Rattle.device_rules.proofs.CutSteps.{in_has}
-use Rattle.device_rules.proofs.ExclusiveHolding.{legal_holdings}
-use Rattle.device_rules.proofs.Going.{IsGoing, some_going}
-use Rattle.device_rules.proofs.Holding.{home_made, present_whole}
-use Rattle.device_rules.proofs.LeftStanding.{going_of, going_rule}
-use Rattle.device_rules.proofs.LegalSound.{legal_is_sound}
-use Rattle.device_rules.proofs.ListSteps.{any-map, each-back, each-change, each-front, each-map}
-use Rattle.device_rules.proofs.OneAnswer.{IsAnswer}
-use Rattle.device_rules.proofs.OneLeave.{accepted_made, loose}
-use Rattle.device_rules.proofs.OneOffer.{reaches}
-use Rattle.device_rules.proofs.Overlaps.{not_broken}
+use Rattle.device_rules.specs.{ResponseOutcomes.respond_changes, ResponseOutcomes.respond_outcome, ResponseOutcomes.unhold, Settings.set_outcome}
+use Rattle.device_rules.specs.{Standing.IsHome, Standing.IsMade, Standing.Sound, Standing.Stands, TagCommands.add_reference_outcome, TagCommands.remove_reference_outcome}
+use Rattle.device_rules.specs.{Tags.is_referenced, Tags.is_tagged, Views.View, Views.view_of}
 use Rattle.selection.proofs.Prescribed.{neither}
-use Rattle.device_rules.proofs.Responding.{answer_of}
 use Rattle.device_rules.proofs.EffectKinds.{PassClearing, PassHeld, PassLists, clear_passes, give_back_passes, hold_passes, reference_passes, removals_pass, respond_passes}
-use Rattle.device_rules.proofs.Leaving.{both_pass, is_quiet, leaves_tags}
-use Rattle.device_rules.proofs.LegalSteps.{step_case}
-use Rattle.device_rules.proofs.RunEffects.{in_extents, removals-leaves}
-use Rattle.device_rules.proofs.StatusOutcomes.{unhold-quiet}
-use Rattle.device_rules.specs.GranuleCells.{IsCell, cell_over}
-use Rattle.device_rules.specs.GranuleTable.{AreKnown, StaysRight}
-use Rattle.device_rules.proofs.GranuleAnswers.{keeps_answer}
-use Rattle.device_rules.proofs.GranuleEnds.{keeps_command}
-use Rattle.device_rules.proofs.GranuleSteps.{Keeps, keeps_outcome, keeps_quiet}
-use Rattle.device_rules.proofs.GranuleOffers.{keeps_offer}
-use Rattle.device_rules.proofs.GranuleLeaves.{claimed_tagged, keeps_removal}
-use Rattle.device_rules.proofs.WholeRuns.{each_one_run}
-use Rattle.device_rules.proofs.GranuleZeros.{keeps_scrub}
 
 quiet_held : (h : HostId) → PassHeld is_quiet h
 quiet_held h = record { hold = λ kind xs. refl; unhold = λ kind. refl }

@@ -1,41 +1,20 @@
 -- What is kept of a granule stays right when tags end.
 use Rattle.std.proofs.Common.{◌≡◌, ℕ, ◌≤◌, Bool, true, false, ◌&&◌, ◌||◌, not, List, [], ◌∷◌, ◌++◌, inl, inr, refl, sym, ap, subst, ◌∙◌, map}
-use Rattle.std.specs.Prelude.{count_by}
-use Rattle.std.specs.List.{list_all, list_any}
 use Rattle.std.proofs.lemmas.Bool.{and_parts, cases_Bool, false≢true, false_from_ne_true, or_left, or_right}
-use Rattle.cci_codec.specs.dcd_base.specs.Words.{has_granule, has_in_runs, has_tag, same_tag}
-use Rattle.cci_codec.specs.dcd_base.specs.declared.capacity.Extent.{Extent}
-use Rattle.cci_codec.specs.dcd_base.specs.declared.capacity.Tag.{Tag}
-use Rattle.cci_codec.specs.dcd_base.specs.declared.ids.HostId.{HostId}
+use Rattle.std.specs.{List.list_all, List.list_any, Prelude.count_by}
+use Rattle.cci_codec.specs.dcd_base.specs.{Words.has_granule, Words.has_in_runs, Words.has_tag, Words.same_tag, declared.capacity.Extent.Extent, declared.capacity.Tag.Tag, declared.ids.HostId.HostId}
 use Rattle.cci_codec.specs.dcd_base.specs.declared.media.Run.{Run}
 use Rattle.granule_map.specs.Tables.{Cell, settled}
-use Rattle.journal_core.specs.Entries.{effects}
-use Rattle.journal_core.specs.Holders.{is_soiled, is_taken}
-use Rattle.journal_core.specs.declared.entries.Entry.{Entry}
-use Rattle.journal_core.specs.declared.outcome.Effect.{Effect}
-use Rattle.extent_list.specs.media_map.specs.Places.{run_of}
-use Rattle.extent_list.specs.media_map.specs.region_config.specs.Configurations.{Configuration}
-use Rattle.extent_list.specs.media_map.specs.region_config.specs.Granules.{region_of, region_spec}
+use Rattle.journal_core.specs.{Entries.effects, Holders.is_soiled, Holders.is_taken, declared.entries.Entry.Entry, declared.outcome.Effect.Effect}
+use Rattle.extent_list.specs.media_map.specs.{Places.run_of, region_config.specs.Configurations.Configuration, region_config.specs.Granules.region_of, region_config.specs.Granules.region_spec}
 use Rattle.extent_list.specs.media_map.specs.region_config.specs.Soundness.{IsSound}
-use Rattle.device_rules.specs.Invariants.{tags_on}
-use Rattle.device_rules.specs.Outcomes.{Outcome, effects_of, ended}
+use Rattle.device_rules.proofs.{CellChanges.cell_ends, CellChanges.where_here, GranuleSteps.Keeps, GranuleSteps.keeps_outcome, GranuleSteps.settled_status, GranuleSteps.unclean_by}
+use Rattle.device_rules.proofs.{Holding.present_whole, Homes.made_of_region, HostSearches.any_none, Leaving.leaves_soil, Leaving.leaves_tags, Leaving.leaves_taking, Leaving.map_passes}
+use Rattle.device_rules.proofs.{ListSteps.any-map, ListSteps.each-at, StatusParts.last_offer-stays, StatusParts.open_tags-stay, StatusParts.soiled-left, StatusParts.taken-left}
+use Rattle.device_rules.proofs.{StatusTags.ends, StatusTags.status-ended, StatusTags.status-not_ended, TagSearches.any_agree, TagSearches.any_of_tag, TagSearches.same_tag-self}
+use Rattle.device_rules.{proofs.TagSteps.has_tag-filter, specs.GranuleCells.IsCell, specs.GranuleCells.is_unclean, specs.GranuleStates.stands_for, specs.GranuleTable.AreKnown}
+use Rattle.device_rules.specs.{Invariants.tags_on, Outcomes.Outcome, Outcomes.effects_of, Outcomes.ended, Pictures.Picture, Pictures.picture_of, Standing.IsMade, Standing.Stands}
 use Rattle.device_rules.specs.Tags.{is_live, is_tagged, last_offer, open_tags, tag_runs}
-use Rattle.device_rules.specs.Pictures.{Picture, picture_of}
-use Rattle.device_rules.specs.Standing.{IsMade, Stands}
-use Rattle.device_rules.proofs.Holding.{present_whole}
-use Rattle.device_rules.proofs.Homes.{made_of_region}
-use Rattle.device_rules.proofs.ListSteps.{any-map, each-at}
-use Rattle.device_rules.proofs.TagSteps.{has_tag-filter}
-use Rattle.device_rules.specs.GranuleStates.{stands_for}
-use Rattle.device_rules.proofs.HostSearches.{any_none}
-use Rattle.device_rules.proofs.Leaving.{leaves_soil, leaves_tags, leaves_taking, map_passes}
-use Rattle.device_rules.proofs.StatusParts.{last_offer-stays, open_tags-stay, soiled-left, taken-left}
-use Rattle.device_rules.proofs.StatusTags.{ends, status-ended, status-not_ended}
-use Rattle.device_rules.proofs.TagSearches.{any_agree, any_of_tag, same_tag-self}
-use Rattle.device_rules.specs.GranuleCells.{IsCell, is_unclean}
-use Rattle.device_rules.specs.GranuleTable.{AreKnown}
-use Rattle.device_rules.proofs.CellChanges.{cell_ends, where_here}
-use Rattle.device_rules.proofs.GranuleSteps.{Keeps, keeps_outcome, settled_status, unclean_by}
 
 -- one of some tags that passes a test
 record IsFound (q : Tag → Bool) (tags : List Tag) : Type 0 where

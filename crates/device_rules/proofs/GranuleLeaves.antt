@@ -1,44 +1,18 @@
 -- What is kept of a granule stays right when a host gives extents back or loses them by force.
 use Rattle.std.proofs.Common.{◌≡◌, ℕ, ◌<◌, Bool, true, false, ◌&&◌, ◌||◌, List, ◌++◌, inl, inr, refl, sym, ap, subst, ◌∙◌}
-use Rattle.std.specs.Prelude.{if◌then◌else◌}
-use Rattle.std.specs.List.{AllByRecursion, list_all, list_any}
-use Rattle.std.proofs.lemmas.Bool.{cases_Bool, false≢true}
-use Rattle.cci_codec.specs.dcd_base.specs.Words.{has_granule}
-use Rattle.cci_codec.specs.dcd_base.specs.declared.capacity.Extent.{Extent}
-use Rattle.cci_codec.specs.dcd_base.specs.declared.capacity.Tag.{Tag}
-use Rattle.cci_codec.specs.dcd_base.specs.declared.ids.HostId.{HostId}
-use Rattle.cci_codec.specs.dcd_base.specs.declared.media.Run.{Run}
-use Rattle.granule_map.specs.declared.states.GranuleState.{GranuleState}
-use Rattle.granule_map.specs.Tables.{Cell, settled, soiled}
-use Rattle.journal_core.specs.Entries.{effects}
-use Rattle.journal_core.specs.Holders.{holds, is_soiled, is_taken}
-use Rattle.journal_core.specs.declared.entries.Entry.{Entry}
-use Rattle.journal_core.specs.declared.outcome.Effect.{Effect}
-use Rattle.extent_list.specs.media_map.specs.Places.{run_of}
-use Rattle.extent_list.specs.media_map.specs.region_config.specs.Configurations.{Configuration}
-use Rattle.extent_list.specs.media_map.specs.region_config.specs.Granules.{region_of, region_spec}
-use Rattle.extent_list.specs.media_map.specs.region_config.specs.Soundness.{IsSound}
-use Rattle.extent_list.specs.media_map.specs.region_config.specs.declared.region_spec.RegionSpec.{RegionSpec}
-use Rattle.device_rules.specs.Invariants.{Holdings}
-use Rattle.device_rules.specs.ReleaseOutcomes.{removals}
-use Rattle.device_rules.specs.Tags.{is_tagged, open_tags, status}
-use Rattle.device_rules.specs.Pictures.{extents_at, picture_of}
-use Rattle.device_rules.specs.Standing.{Stands}
-use Rattle.device_rules.proofs.FreeGranules.{shared_claim}
-use Rattle.device_rules.specs.GranuleStates.{stands_for}
-use Rattle.extent_list.proofs.EachTag.{or_assoc, or_false}
-use Rattle.device_rules.proofs.HostSearches.{or_true}
-use Rattle.device_rules.proofs.Leaving.{after_front, is_quiet}
-use Rattle.device_rules.proofs.RunEffects.{in_extents}
-use Rattle.device_rules.proofs.StatusParts.{tagged_still}
+use Rattle.std.{specs.Prelude.if◌then◌else◌, specs.List.AllByRecursion, specs.List.list_all, specs.List.list_any, proofs.lemmas.Bool.cases_Bool, proofs.lemmas.Bool.false≢true}
+use Rattle.cci_codec.specs.dcd_base.specs.{Words.has_granule, declared.capacity.Extent.Extent, declared.capacity.Tag.Tag, declared.ids.HostId.HostId, declared.media.Run.Run}
+use Rattle.granule_map.specs.{declared.states.GranuleState.GranuleState, Tables.Cell, Tables.settled, Tables.soiled}
+use Rattle.journal_core.specs.{Entries.effects, Holders.holds, Holders.is_soiled, Holders.is_taken, declared.entries.Entry.Entry, declared.outcome.Effect.Effect}
+use Rattle.extent_list.{proofs.EachTag.or_assoc, proofs.EachTag.or_false, specs.media_map.specs.Places.run_of, specs.media_map.specs.region_config.specs.Configurations.Configuration}
+use Rattle.extent_list.specs.media_map.specs.region_config.specs.{Granules.region_of, Granules.region_spec, Soundness.IsSound, declared.region_spec.RegionSpec.RegionSpec}
+use Rattle.device_rules.proofs.{CellChanges.cell_quiet, CellChanges.cell_removals, CellChanges.removed_as, CellChanges.where_here, FreeGranules.shared_claim, GranuleEnds.private_untagged}
+use Rattle.device_rules.proofs.{GranuleSteps.Keeps, GranuleSteps.settled_status, GranuleSteps.unclean_by, HostSearches.or_true, Leaving.after_front, Leaving.is_quiet, RunEffects.in_extents}
 use Rattle.device_rules.proofs.StatusKept.{status-removed_kept}
 use Rattle.device_rules.proofs.StatusLeaves.{removing, soiled-remove, status-not_removed, status-remove_shared, taken-remove}
-use Rattle.device_rules.proofs.TagSearches.{any_of_tag}
-use Rattle.device_rules.specs.GranuleCells.{IsCell, cell_after, is_unclean, status_of}
-use Rattle.device_rules.proofs.CellChanges.{cell_quiet, cell_removals, removed_as, where_here}
-use Rattle.device_rules.proofs.GranuleEnds.{private_untagged}
-use Rattle.device_rules.proofs.GranuleSteps.{Keeps, settled_status, unclean_by}
-use Rattle.device_rules.proofs.WholeRuns.{IsOneRun}
+use Rattle.device_rules.proofs.{StatusParts.tagged_still, TagSearches.any_of_tag, WholeRuns.IsOneRun}
+use Rattle.device_rules.specs.{GranuleCells.IsCell, GranuleCells.cell_after, GranuleCells.is_unclean, GranuleCells.status_of, GranuleStates.stands_for, Invariants.Holdings}
+use Rattle.device_rules.specs.{Pictures.extents_at, Pictures.picture_of, ReleaseOutcomes.removals, Standing.Stands, Tags.is_tagged, Tags.open_tags, Tags.status}
 
 -- a granule of a shareable region that an extent of a host has is of an open tag
 pub claimed_tagged : (c : Configuration) → IsSound c → (past : List Effect) → Stands c (picture_of c past) → (k : HostId) (g : ℕ) → k < c.hosts →

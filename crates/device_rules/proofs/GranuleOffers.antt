@@ -1,41 +1,19 @@
 -- What is kept of a granule stays right over an offer.
 use Rattle.std.proofs.Common.{◌≡◌, ◌⊎◌, ℕ, Bool, true, false, List, [], ◌∷◌, ◌++◌, inl, inr, refl, sym, ap, subst, ◌∙◌, arith}
-use Rattle.std.specs.Prelude.{flat_map, if◌then◌else◌}
-use Rattle.std.specs.List.{AllByRecursion, list_any}
-use Rattle.std.proofs.lemmas.Bool.{cases_Bool, false≢true, false_from_ne_true, or_left}
-use Rattle.std.proofs.lemmas.List.Folds.{list_any-append}
-use Rattle.cci_codec.specs.dcd_base.specs.Words.{has_granule, has_in_runs, has_tag, same_tag}
-use Rattle.cci_codec.specs.dcd_base.specs.declared.capacity.Extent.{Extent}
-use Rattle.cci_codec.specs.dcd_base.specs.declared.capacity.Tag.{Tag}
-use Rattle.cci_codec.specs.dcd_base.specs.declared.ids.HostId.{HostId}
+use Rattle.std.proofs.lemmas.{Bool.cases_Bool, Bool.false≢true, Bool.false_from_ne_true, Bool.or_left, List.Folds.list_any-append}
+use Rattle.std.specs.{List.AllByRecursion, List.list_any, Prelude.flat_map, Prelude.if◌then◌else◌}
+use Rattle.cci_codec.specs.dcd_base.specs.{Words.has_granule, Words.has_in_runs, Words.has_tag, Words.same_tag, declared.capacity.Extent.Extent, declared.capacity.Tag.Tag, declared.ids.HostId.HostId}
 use Rattle.cci_codec.specs.dcd_base.specs.declared.media.Run.{Run}
-use Rattle.extent_list.specs.ExtentLists.{has_extent_of}
-use Rattle.granule_map.specs.declared.states.GranuleState.{GranuleState}
-use Rattle.granule_map.specs.Tables.{Cell}
-use Rattle.journal_core.specs.Holders.{holds, is_soiled, is_taken}
-use Rattle.journal_core.specs.declared.outcome.Effect.{Effect}
-use Rattle.extent_list.specs.media_map.specs.Places.{region_at, run_of}
-use Rattle.extent_list.specs.media_map.specs.region_config.specs.Configurations.{Configuration}
-use Rattle.extent_list.specs.media_map.specs.region_config.specs.Granules.{hosts_of, region_of, region_spec}
-use Rattle.extent_list.specs.media_map.specs.region_config.specs.Soundness.{IsSound}
-use Rattle.device_rules.specs.Tags.{is_held, open_tags, status}
-use Rattle.device_rules.specs.Pictures.{Picture, extents_at, picture_of}
-use Rattle.device_rules.specs.Standing.{IsMade, Stands}
-use Rattle.device_rules.proofs.Adding.{IsAdded}
-use Rattle.device_rules.proofs.Holding.{present_whole}
-use Rattle.device_rules.proofs.Homes.{made_of_region, made_region}
-use Rattle.device_rules.proofs.ListSteps.{any-map, each-at, each-change, many-any}
-use Rattle.device_rules.proofs.OneOffer.{IsFresh, IsShared, reaches}
-use Rattle.device_rules.proofs.TagSteps.{same_tag-is}
-use Rattle.device_rules.specs.GranuleStates.{stands_for}
-use Rattle.device_rules.proofs.HostSearches.{any_none}
-use Rattle.device_rules.proofs.RunEffects.{in_extents}
-use Rattle.device_rules.proofs.StatusOffers.{status-not_offered, status-offered, status-offered_shared}
-use Rattle.device_rules.proofs.StatusParts.{soiled-left, taken-left}
-use Rattle.device_rules.specs.GranuleCells.{IsCell, is_unclean, status_of}
-use Rattle.device_rules.proofs.CellChanges.{cell_offer, offered_as, where_here}
-use Rattle.device_rules.proofs.GranuleSteps.{Keeps, unclean_by}
-use Rattle.device_rules.proofs.WholeRuns.{IsOneRun, one_run}
+use Rattle.extent_list.specs.{ExtentLists.has_extent_of, media_map.specs.Places.region_at, media_map.specs.Places.run_of, media_map.specs.region_config.specs.Configurations.Configuration}
+use Rattle.extent_list.specs.media_map.specs.region_config.specs.{Granules.hosts_of, Granules.region_of, Granules.region_spec, Soundness.IsSound}
+use Rattle.granule_map.specs.{declared.states.GranuleState.GranuleState, Tables.Cell}
+use Rattle.journal_core.specs.{Holders.holds, Holders.is_soiled, Holders.is_taken, declared.outcome.Effect.Effect}
+use Rattle.device_rules.proofs.{Adding.IsAdded, CellChanges.cell_offer, CellChanges.offered_as, CellChanges.where_here, GranuleSteps.Keeps, GranuleSteps.unclean_by, Holding.present_whole}
+use Rattle.device_rules.proofs.{Homes.made_of_region, Homes.made_region, HostSearches.any_none, ListSteps.any-map, ListSteps.each-at, ListSteps.each-change, ListSteps.many-any}
+use Rattle.device_rules.proofs.{OneOffer.IsFresh, OneOffer.IsShared, OneOffer.reaches, RunEffects.in_extents}
+use Rattle.device_rules.proofs.{StatusOffers.status-not_offered, StatusOffers.status-offered, StatusOffers.status-offered_shared, StatusParts.soiled-left, StatusParts.taken-left, TagSteps.same_tag-is}
+use Rattle.device_rules.{proofs.WholeRuns.IsOneRun, proofs.WholeRuns.one_run, specs.GranuleCells.IsCell, specs.GranuleCells.is_unclean, specs.GranuleCells.status_of, specs.GranuleStates.stands_for}
+use Rattle.device_rules.specs.{Pictures.Picture, Pictures.extents_at, Pictures.picture_of, Standing.IsMade, Standing.Stands, Tags.is_held, Tags.open_tags, Tags.status}
 
 -- the tag of a list of extents of one tag
 one_of_tag : (t u : Tag) (xs : List Extent) → AllByRecursion (λ x. x.tag ≡ t) xs → has_extent_of u xs ≡ true → t ≡ u

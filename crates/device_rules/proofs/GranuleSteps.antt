@@ -1,27 +1,14 @@
 -- What is kept of a granule stays right over effects: over some more, over those that change no status, and over a whole command.
 use Rattle.std.proofs.Common.{◌≡◌, ℕ, Bool, true, false, ◌&&◌, ◌||◌, List, ◌++◌, sym, ap, subst, ◌∙◌, append_assoc}
-use Rattle.std.specs.Prelude.{flat_map, if◌then◌else◌}
-use Rattle.std.specs.List.{list_all}
-use Rattle.std.proofs.lemmas.List.Sums.{fold-append}
-use Rattle.cci_codec.specs.dcd_base.specs.declared.capacity.Extent.{Extent}
-use Rattle.cci_codec.specs.dcd_base.specs.declared.capacity.Tag.{Tag}
-use Rattle.cci_codec.specs.dcd_base.specs.declared.ids.HostId.{HostId}
-use Rattle.cci_codec.specs.dcd_base.specs.declared.media.Run.{Run}
-use Rattle.granule_map.specs.declared.states.GranuleState.{GranuleState}
-use Rattle.granule_map.specs.Tables.{Cell}
-use Rattle.journal_core.specs.Holders.{is_soiled, is_taken}
-use Rattle.journal_core.specs.declared.outcome.Effect.{Effect}
-use Rattle.extent_list.specs.media_map.specs.region_config.specs.Configurations.{Configuration}
-use Rattle.extent_list.specs.media_map.specs.region_config.specs.Granules.{region_of, region_spec}
-use Rattle.device_rules.specs.Logs.{log_of}
-use Rattle.device_rules.specs.Outcomes.{Outcome, effects_of, ended, entered_all}
-use Rattle.device_rules.specs.Tags.{Dirty, Free}
-use Rattle.device_rules.proofs.Leaving.{is_quiet, quiet_soil, quiet_taking}
-use Rattle.device_rules.proofs.StatusOutcomes.{told-quiet}
-use Rattle.device_rules.proofs.StatusParts.{soiled-left, status-quiet, taken-left}
-use Rattle.device_rules.proofs.StatusTags.{ends}
-use Rattle.device_rules.specs.GranuleCells.{IsCell, cell_after, cell_over, is_unclean, status_of}
-use Rattle.device_rules.proofs.CellChanges.{cell_quiet}
+use Rattle.std.{specs.Prelude.flat_map, specs.Prelude.if◌then◌else◌, specs.List.list_all, proofs.lemmas.List.Sums.fold-append}
+use Rattle.cci_codec.specs.dcd_base.specs.declared.{capacity.Extent.Extent, capacity.Tag.Tag, ids.HostId.HostId, media.Run.Run}
+use Rattle.granule_map.specs.{declared.states.GranuleState.GranuleState, Tables.Cell}
+use Rattle.journal_core.specs.{Holders.is_soiled, Holders.is_taken, declared.outcome.Effect.Effect}
+use Rattle.extent_list.specs.media_map.specs.region_config.specs.{Configurations.Configuration, Granules.region_of, Granules.region_spec}
+use Rattle.device_rules.proofs.{CellChanges.cell_quiet, Leaving.is_quiet, Leaving.quiet_soil, Leaving.quiet_taking, StatusOutcomes.told-quiet}
+use Rattle.device_rules.proofs.{StatusParts.soiled-left, StatusParts.status-quiet, StatusParts.taken-left, StatusTags.ends}
+use Rattle.device_rules.specs.{GranuleCells.IsCell, GranuleCells.cell_after, GranuleCells.cell_over, GranuleCells.is_unclean, GranuleCells.status_of, Logs.log_of}
+use Rattle.device_rules.specs.{Outcomes.Outcome, Outcomes.effects_of, Outcomes.ended, Outcomes.entered_all, Tags.Dirty, Tags.Free}
 
 -- These effects keep it right.
 abbrev pub Keeps : Configuration → (HostId → List Extent) → (Tag → List Run) → ℕ → List Effect → List Effect → Type 0

@@ -1,26 +1,13 @@
 -- What is kept of a granule stays right over a scrub.
 use Rattle.std.proofs.Common.{◌≡◌, ℕ, Bool, true, false, ◌&&◌, ◌||◌, not, List, ◌++◌, refl, sym, ap, subst, ◌∙◌, map}
-use Rattle.std.specs.Prelude.{◌==◌, if◌then◌else◌}
-use Rattle.std.specs.List.{list_any}
-use Rattle.cci_codec.specs.dcd_base.specs.Words.{has_in_runs}
-use Rattle.cci_codec.specs.dcd_base.specs.declared.capacity.Extent.{Extent}
-use Rattle.cci_codec.specs.dcd_base.specs.declared.capacity.Tag.{Tag}
-use Rattle.cci_codec.specs.dcd_base.specs.declared.ids.HostId.{HostId}
-use Rattle.cci_codec.specs.dcd_base.specs.declared.media.Run.{Run}
-use Rattle.granule_map.specs.Choices.{joined}
-use Rattle.granule_map.specs.Tables.{Cell, zeroed}
-use Rattle.journal_core.specs.Holders.{is_soiled, is_taken}
-use Rattle.journal_core.specs.declared.outcome.Effect.{Effect}
-use Rattle.extent_list.specs.media_map.specs.region_config.specs.Configurations.{Configuration}
-use Rattle.extent_list.specs.media_map.specs.region_config.specs.Granules.{region_of, region_spec, same_region}
-use Rattle.device_rules.specs.Answers.{scrubbed, zeroes}
-use Rattle.device_rules.specs.Tags.{Free, status}
-use Rattle.device_rules.proofs.JoinedRuns.{joined_has}
-use Rattle.device_rules.proofs.RunEffects.{run_from, zeros}
-use Rattle.device_rules.proofs.StatusZeros.{soiled-zeros, status-scrub, taken-zeros}
-use Rattle.device_rules.specs.GranuleCells.{IsCell, is_unclean}
-use Rattle.device_rules.proofs.CellChanges.{cell_zeros, where_here}
-use Rattle.device_rules.proofs.GranuleSteps.{Keeps, unclean_by}
+use Rattle.std.specs.{Prelude.◌==◌, Prelude.if◌then◌else◌, List.list_any}
+use Rattle.cci_codec.specs.dcd_base.specs.{Words.has_in_runs, declared.capacity.Extent.Extent, declared.capacity.Tag.Tag, declared.ids.HostId.HostId, declared.media.Run.Run}
+use Rattle.granule_map.specs.{Choices.joined, Tables.Cell, Tables.zeroed}
+use Rattle.journal_core.specs.{Holders.is_soiled, Holders.is_taken, declared.outcome.Effect.Effect}
+use Rattle.extent_list.specs.media_map.specs.region_config.specs.{Configurations.Configuration, Granules.region_of, Granules.region_spec, Granules.same_region}
+use Rattle.device_rules.proofs.{CellChanges.cell_zeros, CellChanges.where_here, GranuleSteps.Keeps, GranuleSteps.unclean_by, JoinedRuns.joined_has, RunEffects.run_from, RunEffects.zeros}
+use Rattle.device_rules.{proofs.StatusZeros.soiled-zeros, proofs.StatusZeros.status-scrub, proofs.StatusZeros.taken-zeros, specs.Answers.scrubbed, specs.Answers.zeroes}
+use Rattle.device_rules.specs.{GranuleCells.IsCell, GranuleCells.is_unclean, Tags.Free, Tags.status}
 
 nothing_left : (sanitize taken soiled : Bool) → ((sanitize && (taken && false)) || (soiled && false)) ≡ false
 nothing_left true true true = refl

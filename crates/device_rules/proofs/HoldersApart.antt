@@ -1,21 +1,11 @@
 -- What the holdings of a legal journal give: holders are apart, and nobody holds what is offered.
 use Rattle.std.proofs.Common.{◌≡◌, ℕ, ◌+◌, ◌<◌, Bool, true, false, List, [], ◌∷◌, length, refl, sym, ◌∙◌, subst, arith, length-append}
+use Rattle.std.{proofs.lemmas.Bool.false≢true, proofs.lemmas.List.Elements.filter-append, specs.List.list_any}
 use Rattle.std.specs.Prelude.{map, filter, flat_map, if◌then◌else◌, ◌||◌, IsTrue, IsFalse}
-use Rattle.std.specs.List.{list_any}
-use Rattle.std.proofs.lemmas.Bool.{false≢true}
-use Rattle.std.proofs.lemmas.List.Elements.{filter-append}
-use Rattle.extent_list.specs.media_map.specs.region_config.specs.Configurations.{Configuration}
-use Rattle.cci_codec.specs.dcd_base.specs.declared.ids.HostId.{HostId}
-use Rattle.cci_codec.specs.dcd_base.specs.declared.capacity.Extent.{Extent}
-use Rattle.cci_codec.specs.dcd_base.specs.declared.media.Run.{Run}
-use Rattle.journal_core.specs.declared.entries.Entry.{Entry}
-use Rattle.extent_list.specs.media_map.specs.Places.{run_of}
-use Rattle.extent_list.specs.media_map.specs.region_config.specs.Granules.{region_of, region_spec}
-use Rattle.cci_codec.specs.dcd_base.specs.Words.{has_granule, has_in_runs}
-use Rattle.journal_core.specs.Entries.{effects}
-use Rattle.journal_core.specs.Holders.{holds}
-use Rattle.device_rules.specs.Hosts.{accepted_of, offers_of}
-use Rattle.device_rules.specs.Invariants.{Holdings, claims_of}
+use Rattle.extent_list.specs.media_map.specs.{region_config.specs.Configurations.Configuration, Places.run_of, region_config.specs.Granules.region_of, region_config.specs.Granules.region_spec}
+use Rattle.cci_codec.specs.dcd_base.specs.{declared.ids.HostId.HostId, declared.capacity.Extent.Extent, declared.media.Run.Run, Words.has_granule, Words.has_in_runs}
+use Rattle.journal_core.specs.{declared.entries.Entry.Entry, Entries.effects, Holders.holds}
+use Rattle.device_rules.specs.{Hosts.accepted_of, Hosts.offers_of, Invariants.Holdings, Invariants.claims_of}
 
 one_more : (b rest : Bool) (x : Extent) (xs : List Extent) → (rest ≡ true → 0 < length xs) → (b || rest) ≡ true → 0 < length (if b then x ∷ xs else xs)
 one_more true rest x xs more e = omega arith

@@ -2,26 +2,14 @@
 use Rattle.std.proofs.Common.{◌≡◌, ℕ, zero, suc, ◌+◌, ◌%◌, ◌<◌, ◌≤◌, Bool, true, false, not, ◌&&◌, List, [], length, refl, ap, sym, subst, inl, inr, arith, leb, ltb, eqb}
 use Rattle.std.specs.List.{list_all, range_with_len}
 use Rattle.std.proofs.lemmas.Bool.{and_from, cases_Bool, cases_lt, false≢true, le-leb, lt-ltb, ne_eqb, not_from_false, or_left, or_right}
-use Rattle.cci_codec.specs.dcd_base.specs.declared.capacity.Extent.{Extent}
-use Rattle.cci_codec.specs.dcd_base.specs.declared.ids.HostId.{HostId}
-use Rattle.cci_codec.specs.dcd_base.specs.declared.media.Run.{Run}
-use Rattle.cci_codec.specs.dcd_base.specs.Words.{has_granule, has_in_runs, has_tag}
-use Rattle.extent_list.specs.media_map.specs.region_config.specs.Configurations.{Configuration}
-use Rattle.extent_list.specs.media_map.specs.region_config.specs.Soundness.{IsSound}
-use Rattle.extent_list.specs.media_map.specs.region_config.specs.Granules.{base_of, granule_size, region_spec, with_blocks}
-use Rattle.extent_list.specs.media_map.specs.region_config.proofs.PresentBlocks.{region_spec-with_blocks}
-use Rattle.extent_list.specs.media_map.specs.Places.{region_at, run_of}
-use Rattle.extent_list.specs.Listing.{is_aligned, lies_in_region}
-use Rattle.journal_core.specs.declared.entries.Entry.{Entry}
-use Rattle.journal_core.specs.declared.outcome.Effect.{Effect}
-use Rattle.journal_core.specs.Entries.{effects}
-use Rattle.device_rules.specs.Invariants.{Holdings, is_placed, is_under_tag}
-use Rattle.device_rules.specs.Tags.{last_offer, open_tags, tag_runs}
-use Rattle.device_rules.specs.Views.{view_of}
-use Rattle.device_rules.specs.Pictures.{Picture, extents_at, picture_of}
-use Rattle.device_rules.specs.Standing.{IsHome, IsMade, IsUnder, Sound, Stands}
-use Rattle.device_rules.proofs.Homes.{base_same, made_region, supported_whole}
-use Rattle.device_rules.proofs.ListSteps.{each-list_all}
+use Rattle.cci_codec.specs.dcd_base.specs.{declared.capacity.Extent.Extent, declared.ids.HostId.HostId, declared.media.Run.Run, Words.has_granule, Words.has_in_runs, Words.has_tag}
+use Rattle.extent_list.specs.{Listing.is_aligned, Listing.lies_in_region, media_map.specs.Places.region_at, media_map.specs.Places.run_of}
+use Rattle.extent_list.specs.media_map.specs.region_config.{proofs.PresentBlocks.region_spec-with_blocks, specs.Configurations.Configuration}
+use Rattle.extent_list.specs.media_map.specs.region_config.specs.{Granules.base_of, Granules.granule_size, Granules.region_spec, Granules.with_blocks, Soundness.IsSound}
+use Rattle.journal_core.specs.{declared.entries.Entry.Entry, declared.outcome.Effect.Effect, Entries.effects}
+use Rattle.device_rules.proofs.{Homes.base_same, Homes.made_region, Homes.supported_whole, ListSteps.each-list_all}
+use Rattle.device_rules.specs.{Invariants.Holdings, Invariants.is_placed, Invariants.is_under_tag, Pictures.Picture, Pictures.extents_at, Pictures.picture_of}
+use Rattle.device_rules.specs.{Standing.IsHome, Standing.IsMade, Standing.IsUnder, Standing.Sound, Standing.Stands, Tags.last_offer, Tags.open_tags, Tags.tag_runs, Views.view_of}
 
 pub range_all : (p : ℕ → Bool) (a n : ℕ) → ((k : ℕ) → a ≤ k → k < a + n → p k ≡ true) → list_all p (range_with_len a n) ≡ true
 range_all p a zero each = refl

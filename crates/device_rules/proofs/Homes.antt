@@ -1,30 +1,16 @@
 -- An extent that is made of present blocks: its region, its run, and the same with the configuration of the present blocks.
 use Rattle.std.proofs.Common.{◌≡◌, ℕ, zero, suc, ◌+◌, ◌-◌, ◌*◌, ◌/◌, ◌%◌, ◌^◌, ◌<◌, ◌≤◌, true, ◌&&◌, List, [], ◌∷◌, length, get_or, refl, ap, sym, subst, ◌∙◌, inl, inr, arith, leb, ltb, div-add-mod'}
-use Rattle.std.specs.Prelude.{slice_index, unwrap_or}
-use Rattle.std.specs.List.{enumerate_from, find, range_with_len}
+use Rattle.std.proofs.{Math.Nat.mul-mod_left, lemmas.Bool.and_parts, lemmas.Bool.cases_lt, lemmas.Bool.leb-true, lemmas.Bool.ltb-true, lemmas.List.length-map, lemmas.List.FromFn.length-enumerate_from}
+use Rattle.std.proofs.lemmas.Nat.{pow-add, pow_pos, Bits.bit_at-suc, Bits.bit_at_lowest}
+use Rattle.std.specs.{Int.bit_at, Int.w64, Int.trailing_zeros, List.enumerate_from, List.find, List.range_with_len, Prelude.slice_index, Prelude.unwrap_or}
 use lib.Count.{count_trailing_zeros, under}
-use Rattle.std.specs.Int.{bit_at, w64, trailing_zeros}
-use Rattle.std.proofs.lemmas.Nat.{pow-add, pow_pos}
-use Rattle.std.proofs.lemmas.Nat.Bits.{bit_at-suc, bit_at_lowest}
-use Rattle.extent_list.specs.media_map.specs.region_config.proofs.Powers.{supported}
-use Rattle.std.proofs.lemmas.List.{length-map}
-use Rattle.std.proofs.lemmas.List.FromFn.{length-enumerate_from}
-use Rattle.std.proofs.lemmas.Bool.{and_parts, cases_lt, leb-true, ltb-true}
-use Rattle.std.proofs.Math.Nat.{mul-mod_left}
-use Rattle.cci_codec.specs.dcd_base.specs.declared.capacity.Extent.{Extent}
-use Rattle.cci_codec.specs.dcd_base.specs.declared.capacity.Tag.{Tag}
-use Rattle.cci_codec.specs.dcd_base.specs.declared.ids.HostId.{HostId}
-use Rattle.cci_codec.specs.dcd_base.specs.declared.media.Run.{Run}
-use Rattle.cci_codec.specs.dcd_base.specs.Words.{has_granule}
-use Rattle.extent_list.specs.media_map.specs.region_config.specs.declared.region_spec.RegionSpec.{RegionSpec}
+use Rattle.extent_list.specs.media_map.proofs.{PlaceLemmas.has, RunLemmas.IsGranular, RunLemmas.is_run, RunLemmas.region_at_is, RunLemmas.run_bytes, RunLemmas.run_fits, RunLemmas.run_starts}
+use Rattle.extent_list.specs.media_map.specs.Places.{IsRun, bytes_of_run, extent_of, has_address, region_at, run_of, start_of}
+use Rattle.extent_list.specs.media_map.specs.region_config.proofs.{GranuleLemmas.region_is, Powers.supported, PresentBlocks.first_granule-with_blocks, PresentBlocks.region_spec-with_blocks}
 use Rattle.extent_list.specs.media_map.specs.region_config.specs.Configurations.{Configuration}
 use Rattle.extent_list.specs.media_map.specs.region_config.specs.Granules.{base_of, first_granule, granule_size, is_supported, no_region, region_of, region_spec, with_blocks}
-use Rattle.extent_list.specs.media_map.specs.region_config.specs.Soundness.{IsSound}
-use Rattle.extent_list.specs.media_map.specs.region_config.proofs.PresentBlocks.{first_granule-with_blocks, region_spec-with_blocks}
-use Rattle.extent_list.specs.media_map.specs.region_config.proofs.GranuleLemmas.{region_is}
-use Rattle.extent_list.specs.media_map.specs.Places.{IsRun, bytes_of_run, extent_of, has_address, region_at, run_of, start_of}
-use Rattle.extent_list.specs.media_map.proofs.PlaceLemmas.{has}
-use Rattle.extent_list.specs.media_map.proofs.RunLemmas.{IsGranular, is_run, region_at_is, run_bytes, run_fits, run_starts}
+use Rattle.extent_list.specs.media_map.specs.region_config.specs.{Soundness.IsSound, declared.region_spec.RegionSpec.RegionSpec}
+use Rattle.cci_codec.specs.dcd_base.specs.{declared.capacity.Extent.Extent, declared.capacity.Tag.Tag, declared.ids.HostId.HostId, declared.media.Run.Run, Words.has_granule}
 use Rattle.selection.proofs.Placed.{IsPlaced, of_parts}
 use Rattle.device_rules.specs.Standing.{IsMade}
 

@@ -1,18 +1,12 @@
 -- The number whose bits are the hosts that pass a test, and a test that changes at one host.
 use Rattle.std.proofs.Common.{◌≡◌, ◌⊎◌, ℕ, zero, suc, ◌+◌, ◌-◌, ◌*◌, ◌/◌, ◌%◌, ◌^◌, ◌<◌, ◌≤◌, Bool, true, false, not, ◌||◌, ◌==◌, refl, sym, ap, subst, ◌∙◌, inl, inr, arith, pow-suc, pow_pos}
-use Rattle.std.specs.Prelude.{sum_by, if◌then◌else◌}
-use Rattle.std.specs.Int.{bit_at}
-use Rattle.std.specs.List.{list_any, range_with_len}
-use Rattle.std.proofs.lemmas.Bool.{cases_Bool, cases_eq, cases_lt, eqb-true, false≢true, ne_eqb}
-use Rattle.std.proofs.lemmas.List.Sums.{sum_by-cons}
-use Rattle.std.proofs.lemmas.Nat.Bits.{bit_at-lt, bit_at-suc, bit_at_lowest}
 use Rattle.std.proofs.Math.Nat.{add-div_right, div-eq-sub-div, div-eq_of_lt}
-use Rattle.cci_codec.specs.dcd_base.specs.declared.ids.HostId.{HostId}
-use Rattle.extent_list.specs.media_map.specs.region_config.specs.Configurations.{Configuration}
-use Rattle.extent_list.specs.media_map.specs.region_config.specs.Granules.{hosts_of}
-use Rattle.cci_codec.specs.dcd_base.specs.Hosts.{has_host, with_host, without_host}
-use Rattle.tag_refs.specs.Tables.{set_by}
-use Rattle.tag_refs.specs.declared.entries.TagEntry.{TagEntry}
+use Rattle.std.proofs.lemmas.{Bool.cases_Bool, Bool.cases_eq, Bool.cases_lt, Bool.eqb-true, Bool.false≢true, Bool.ne_eqb, List.Sums.sum_by-cons}
+use Rattle.std.{proofs.lemmas.Nat.Bits.bit_at-lt, proofs.lemmas.Nat.Bits.bit_at-suc, proofs.lemmas.Nat.Bits.bit_at_lowest, specs.Int.bit_at, specs.List.list_any, specs.List.range_with_len}
+use Rattle.std.specs.Prelude.{sum_by, if◌then◌else◌}
+use Rattle.cci_codec.specs.dcd_base.specs.{declared.ids.HostId.HostId, Hosts.has_host, Hosts.with_host, Hosts.without_host}
+use Rattle.extent_list.specs.media_map.specs.region_config.specs.{Configurations.Configuration, Granules.hosts_of}
+use Rattle.tag_refs.specs.{Tables.set_by, declared.entries.TagEntry.TagEntry}
 use Rattle.device_rules.specs.TagCommands.{host_bits}
 
 -- ---- the bits of some hosts in a row

@@ -1,27 +1,16 @@
 -- What one host has of some tags is set anew: the table after that, and the tags that end by it.
 use Rattle.std.proofs.Common.{◌≡◌, ◌⊎◌, ◌<◌, Bool, true, false, ◌&&◌, ◌||◌, not, ◌==◌, List, [], ◌∷◌, ◌++◌, map, refl, sym, ap, subst, ◌∙◌, inl, inr}
+use Rattle.std.{proofs.lemmas.Bool.cases_Bool, proofs.lemmas.Bool.or_left, proofs.lemmas.Bool.or_right, specs.List.AllByRecursion, specs.List.list_any}
 use Rattle.std.specs.Prelude.{if◌then◌else◌, filter}
-use Rattle.std.specs.List.{AllByRecursion, list_any}
-use Rattle.std.proofs.lemmas.Bool.{cases_Bool, or_left, or_right}
-use Rattle.cci_codec.specs.dcd_base.specs.Words.{has_tag, same_tag}
-use Rattle.cci_codec.specs.dcd_base.specs.declared.capacity.Tag.{Tag}
-use Rattle.cci_codec.specs.dcd_base.specs.declared.ids.HostId.{HostId}
-use Rattle.extent_list.specs.ExtentLists.{has_extent_of}
+use Rattle.cci_codec.specs.dcd_base.specs.{Words.has_tag, Words.same_tag, declared.capacity.Tag.Tag, declared.ids.HostId.HostId, Hosts.with_host, Hosts.without_host}
+use Rattle.extent_list.specs.{ExtentLists.has_extent_of, media_map.specs.region_config.specs.Configurations.Configuration, media_map.specs.region_config.specs.Granules.hosts_of}
 use Rattle.journal_core.specs.declared.outcome.Effect.{Effect}
-use Rattle.extent_list.specs.media_map.specs.region_config.specs.Configurations.{Configuration}
-use Rattle.extent_list.specs.media_map.specs.region_config.specs.Granules.{hosts_of}
-use Rattle.cci_codec.specs.dcd_base.specs.Hosts.{with_host, without_host}
-use Rattle.tag_refs.specs.Tables.{entries_changed, is_entry_of, is_used, passes, set_by, still_used}
-use Rattle.tag_refs.specs.declared.entries.TagEntry.{TagEntry}
-use Rattle.device_rules.specs.Outcomes.{Outcome, effects_of, ended}
-use Rattle.device_rules.specs.Tags.{is_accepted_by, is_live, is_offered_to, open_tags, tag_region, tag_runs}
-use Rattle.device_rules.specs.Pictures.{Picture, picture_of}
-use Rattle.device_rules.specs.Standing.{Sound}
-use Rattle.device_rules.proofs.TagSteps.{same_tag-back, same_tag-is, same_tag-self}
-use Rattle.device_rules.specs.TagTable.{IsEntry, IsTable, ending, host_of_tags_set}
-use Rattle.device_rules.proofs.HostBits.{Agree, agree_all, host_bits-change, set_by-twice}
+use Rattle.tag_refs.specs.{Tables.entries_changed, Tables.is_entry_of, Tables.is_used, Tables.passes, Tables.set_by, Tables.still_used, declared.entries.TagEntry.TagEntry}
+use Rattle.device_rules.proofs.{HostBits.Agree, HostBits.agree_all, HostBits.host_bits-change, HostBits.set_by-twice, SettledTags.mapped, SettledTags.settled}
 use Rattle.device_rules.proofs.TagEntries.{entry-moved, open_uses, table_passes, table_used, used_is, uses}
-use Rattle.device_rules.proofs.SettledTags.{mapped, settled}
+use Rattle.device_rules.{proofs.TagSteps.same_tag-back, proofs.TagSteps.same_tag-is, proofs.TagSteps.same_tag-self, specs.Outcomes.Outcome, specs.Outcomes.effects_of, specs.Outcomes.ended}
+use Rattle.device_rules.specs.{Pictures.Picture, Pictures.picture_of, Standing.Sound, TagTable.IsEntry, TagTable.IsTable, TagTable.ending, TagTable.host_of_tags_set}
+use Rattle.device_rules.specs.Tags.{is_accepted_by, is_live, is_offered_to, open_tags, tag_region, tag_runs}
 
 -- ---- told tag by tag, or all at once
 

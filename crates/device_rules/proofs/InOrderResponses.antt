@@ -1,42 +1,20 @@
 -- After a legal journal a response in one message that lists extents of the oldest offer in order breaks no rule.
 use Rattle.std.proofs.Common.{◌≡◌, ◌⊎◌, ℕ, ◌+◌, ◌<◌, ◌≤◌, Bool, true, false, ◌&&◌, List, [], ◌∷◌, length, map, None, refl, ap, sym, subst, ◌∙◌, inl, inr, arith, leb, ltb, length-append}
-use Rattle.std.specs.Prelude.{AllPairs, IsFalse, IsTrue, flat_map}
-use Rattle.std.specs.List.{AllByRecursion}
-use Rattle.std.proofs.lemmas.Bool.{cases_Bool, cases_lt, false≢true, false_from_ne_true, or_parts}
-use Rattle.std.proofs.lemmas.List.Concat.{length-flat_map}
-use Rattle.std.proofs.lemmas.List.Elements.{All-from_recursion}
-use Rattle.std.proofs.lemmas.List.Kept.{AllPairs-cons}
-use Rattle.cci_codec.specs.dcd_base.specs.declared.capacity.Extent.{Extent}
-use Rattle.cci_codec.specs.dcd_base.specs.declared.ids.HostId.{HostId}
-use Rattle.cci_codec.specs.dcd_base.specs.Words.{has_granule}
+use Rattle.std.proofs.lemmas.{Bool.cases_Bool, Bool.cases_lt, Bool.false≢true, Bool.false_from_ne_true, Bool.or_parts, List.Concat.length-flat_map, List.Elements.All-from_recursion}
+use Rattle.std.{proofs.lemmas.List.Kept.AllPairs-cons, specs.List.AllByRecursion, specs.Prelude.AllPairs, specs.Prelude.IsFalse, specs.Prelude.IsTrue, specs.Prelude.flat_map}
+use Rattle.cci_codec.specs.dcd_base.specs.{declared.capacity.Extent.Extent, declared.ids.HostId.HostId, Words.has_granule}
 use Rattle.host_payloads.specs.declared.requests.HostRequest.{HostRequest}
-use Rattle.extent_list.specs.media_map.specs.region_config.specs.Configurations.{Configuration}
-use Rattle.extent_list.specs.media_map.specs.region_config.specs.Granules.{region_spec, with_blocks}
-use Rattle.extent_list.specs.media_map.specs.region_config.specs.Soundness.{IsSound}
-use Rattle.extent_list.specs.media_map.specs.Places.{region_at, run_of}
-use Rattle.extent_list.specs.ExtentLists.{count_in, overlaps}
-use Rattle.extent_list.specs.Listing.{lies_in_region}
-use Rattle.offer_core.specs.declared.offer.Offer.{Offer}
-use Rattle.offer_core.specs.InOrder.{AreSome, IsInOrder, IsSoundIn, SameAddresses}
-use Rattle.offer_core.specs.Offerings.{Offering, lists_of}
-use Rattle.offer_core.specs.Responses.{respond_rule}
-use Rattle.offer_core.proofs.Completeness.{in_order_breaks_nothing}
-use Rattle.journal_core.specs.declared.entries.Entry.{Entry}
-use Rattle.journal_core.specs.Entries.{effects}
-use Rattle.device_rules.specs.Answers.{host_outcome, host_result, reply_with, unless}
-use Rattle.device_rules.specs.Legal.{Legal}
-use Rattle.device_rules.specs.Tags.{region_of_offer}
-use Rattle.device_rules.specs.Views.{View, view_of}
-use Rattle.device_rules.specs.InOrderResponses.{AllowsInOrder, SucceedsInOrder}
-use Rattle.device_rules.specs.Pictures.{Picture, count_on, extents_at, picture_of}
-use Rattle.device_rules.specs.Standing.{IsHome, IsMade, IsTogether, Stands}
-use Rattle.device_rules.proofs.Holding.{home_made, made_aligned, made_lies, present_whole}
-use Rattle.device_rules.proofs.Homes.{base_same, length_same, regions_same, shareable_same}
+use Rattle.extent_list.specs.{ExtentLists.count_in, ExtentLists.overlaps, Listing.lies_in_region, media_map.specs.Places.region_at, media_map.specs.Places.run_of}
+use Rattle.extent_list.specs.media_map.specs.region_config.specs.{Configurations.Configuration, Granules.region_spec, Granules.with_blocks, Soundness.IsSound}
+use Rattle.offer_core.{proofs.Completeness.in_order_breaks_nothing, specs.InOrder.AreSome, specs.InOrder.IsInOrder, specs.InOrder.IsSoundIn, specs.InOrder.SameAddresses}
+use Rattle.offer_core.specs.{Offerings.Offering, Offerings.lists_of, Responses.respond_rule, declared.offer.Offer.Offer}
+use Rattle.journal_core.specs.{declared.entries.Entry.Entry, Entries.effects}
+use Rattle.device_rules.proofs.{Holding.home_made, Holding.made_aligned, Holding.made_lies, Holding.present_whole, Homes.base_same, Homes.length_same, Homes.regions_same, Homes.shareable_same}
 use Rattle.device_rules.proofs.LegalSound.{legal_is_sound}
-use Rattle.device_rules.proofs.ListSteps.{each-back, each-both, each-change, each-front, many, many-any, many-append}
-use Rattle.device_rules.proofs.OneOffer.{reaches}
-use Rattle.device_rules.proofs.Overlaps.{common}
-use Rattle.device_rules.proofs.SoundPresent.{present_sound}
+use Rattle.device_rules.proofs.{ListSteps.each-back, ListSteps.each-both, ListSteps.each-change, ListSteps.each-front, ListSteps.many, ListSteps.many-any, ListSteps.many-append, OneOffer.reaches}
+use Rattle.device_rules.{proofs.Overlaps.common, proofs.SoundPresent.present_sound, specs.Answers.host_outcome, specs.Answers.host_result, specs.Answers.reply_with, specs.Answers.unless}
+use Rattle.device_rules.specs.{InOrderResponses.AllowsInOrder, InOrderResponses.SucceedsInOrder, Legal.Legal, Pictures.Picture, Pictures.count_on, Pictures.extents_at, Pictures.picture_of}
+use Rattle.device_rules.specs.{Standing.IsHome, Standing.IsMade, Standing.IsTogether, Standing.Stands, Tags.region_of_offer, Views.View, Views.view_of}
 
 -- the offers of these extents
 abbrev offers_of : List (List Extent) → List Offer

@@ -1,13 +1,11 @@
 -- Joined numbers are in the runs, and no others are.
 use Rattle.std.proofs.Common.{◌≡◌, ℕ, zero, suc, ◌+◌, ◌<◌, ◌≤◌, Bool, true, false, ◌&&◌, ◌||◌, List, [], ◌∷◌, take, inl, inr, refl, sym, ap, subst, ◌∙◌, arith}
-use Rattle.std.specs.Prelude.{filter, map, nat_le, nat_lt, ◌==◌, if◌then◌else◌}
-use Rattle.std.specs.List.{list_any}
+use Rattle.std.specs.{Prelude.filter, Prelude.map, Prelude.nat_le, Prelude.nat_lt, Prelude.◌==◌, Prelude.if◌then◌else◌, List.list_any}
 use Rattle.std.proofs.lemmas.Bool.{and_parts, cases_Bool, cases_eq, cases_lt, eq-eqb, eqb-true, false≢true, le-leb, le-ltb, lt-ltb, ne_eqb, leb-true}
 use Rattle.cci_codec.specs.dcd_base.specs.Words.{has_granule, has_in_runs}
 use Rattle.granule_map.specs.Choices.{joined, joined_onto}
 use Rattle.extent_list.proofs.EachTag.{or_assoc}
-use Rattle.device_rules.proofs.HostSearches.{or_true}
-use Rattle.device_rules.proofs.RunEffects.{run_from}
+use Rattle.device_rules.proofs.{HostSearches.or_true, RunEffects.run_from}
 
 -- a number is not below another
 not_above : (a b : ℕ) → b < a → nat_le a b ≡ false

@@ -1,18 +1,11 @@
 -- Which effects leave what: tests of an effect, and folds over effects that pass one.
 use Rattle.std.proofs.Common.{◌≡◌, ℕ, Bool, true, false, ◌&&◌, List, [], ◌∷◌, ◌++◌, refl, ap, ◌∙◌}
+use Rattle.std.{proofs.lemmas.Bool.and_parts, proofs.lemmas.Bool.false≢true, proofs.lemmas.List.Folds.list_all-append, proofs.lemmas.List.Sums.fold-append, specs.List.list_all}
 use Rattle.std.specs.Prelude.{fold, map, Option}
-use Rattle.std.specs.List.{list_all}
-use Rattle.std.proofs.lemmas.Bool.{and_parts, false≢true}
-use Rattle.std.proofs.lemmas.List.Folds.{list_all-append}
-use Rattle.std.proofs.lemmas.List.Sums.{fold-append}
-use Rattle.cci_codec.specs.dcd_base.specs.declared.ids.HostId.{HostId}
-use Rattle.cci_codec.specs.dcd_base.specs.declared.capacity.Tag.{Tag}
-use Rattle.cci_codec.specs.dcd_base.specs.declared.capacity.Extent.{Extent}
+use Rattle.cci_codec.specs.dcd_base.specs.declared.{ids.HostId.HostId, capacity.Tag.Tag, capacity.Extent.Extent}
 use Rattle.extent_list.specs.media_map.specs.region_config.specs.Configurations.{Configuration}
-use Rattle.journal_core.specs.declared.outcome.Effect.{Effect}
-use Rattle.journal_core.specs.Holders.{holding_after, taking_after, soil_after}
-use Rattle.device_rules.specs.Hosts.{offers_after}
-use Rattle.device_rules.specs.Tags.{last_offer_after, tags_after}
+use Rattle.journal_core.specs.{declared.outcome.Effect.Effect, Holders.holding_after, Holders.taking_after, Holders.soil_after}
+use Rattle.device_rules.specs.{Hosts.offers_after, Tags.last_offer_after, Tags.tags_after}
 
 -- what goes over effects that each leave it stays
 pub over-leaving : {B : Type 0} (f : B → Effect → B) (test : Effect → Bool) (leaves : (b : B) (e : Effect) → test e ≡ true → f b e ≡ b)

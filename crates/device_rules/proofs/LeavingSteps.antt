@@ -1,45 +1,21 @@
 -- The table after extents leave their host: 4803h and 5605h.
 use Rattle.std.proofs.Common.{◌≡◌, ℕ, ◌<◌, Bool, true, false, ◌&&◌, not, ◌==◌, List, [], ◌∷◌, ◌++◌, map, length, None, Option, refl, sym, ap, subst, ◌∙◌, inl, inr, leb, ltb}
-use Rattle.std.specs.Prelude.{fold, if◌then◌else◌}
-use Rattle.std.specs.List.{AllByRecursion, filter, list_any}
 use Rattle.std.proofs.lemmas.Bool.{cases_Bool, false≢true, leb-false, or_left, or_right}
-use Rattle.cci_codec.specs.dcd_base.specs.Words.{◌or◌, has_tag, same_tag}
-use Rattle.cci_codec.specs.dcd_base.specs.declared.capacity.Extent.{Extent}
-use Rattle.cci_codec.specs.dcd_base.specs.declared.capacity.Tag.{Tag}
-use Rattle.cci_codec.specs.dcd_base.specs.declared.ids.HostId.{HostId}
-use Rattle.extent_list.specs.dcd_codes.specs.Rules.{◌breaks◌, each_in}
-use Rattle.extent_list.specs.dcd_codes.specs.declared.rules.Rule.{Rule}
+use Rattle.std.specs.{List.AllByRecursion, List.filter, List.list_any, Prelude.fold, Prelude.if◌then◌else◌}
+use Rattle.cci_codec.specs.dcd_base.specs.{Words.◌or◌, Words.has_tag, Words.same_tag, declared.capacity.Extent.Extent, declared.capacity.Tag.Tag, declared.ids.HostId.HostId}
 use Rattle.extent_list.specs.ExtentLists.{count_in, cut, cut_all, has_extent_of, marked, owner_of, tags_of}
+use Rattle.extent_list.specs.{Listing.incomplete, Listing.too_many_extents, Listing.too_many_listed, dcd_codes.specs.Rules.◌breaks◌, dcd_codes.specs.Rules.each_in}
+use Rattle.extent_list.specs.{dcd_codes.specs.declared.rules.Rule.Rule, media_map.specs.Places.region_at, media_map.specs.region_config.specs.Configurations.Configuration}
+use Rattle.extent_list.specs.media_map.specs.region_config.specs.{Granules.region_spec, Granules.with_blocks, Soundness.IsSound}
 use Rattle.journal_core.specs.declared.outcome.HeldKind.{HeldKind}
-use Rattle.extent_list.specs.Listing.{incomplete, too_many_extents, too_many_listed}
-use Rattle.extent_list.specs.media_map.specs.Places.{region_at}
-use Rattle.extent_list.specs.media_map.specs.region_config.specs.Configurations.{Configuration}
-use Rattle.extent_list.specs.media_map.specs.region_config.specs.Granules.{region_spec, with_blocks}
-use Rattle.extent_list.specs.media_map.specs.region_config.specs.Soundness.{IsSound}
-use Rattle.release_core.specs.Leaving.{count_after}
-use Rattle.release_core.specs.Releases.{give_back_rule}
-use Rattle.release_core.specs.Removals.{by_tag_rule, prescribed_removal_rule, extents_of_tag}
-use Rattle.device_rules.specs.Outcomes.{log_full}
+use Rattle.release_core.specs.{Leaving.count_after, Releases.give_back_rule, Removals.by_tag_rule, Removals.prescribed_removal_rule, Removals.extents_of_tag}
+use Rattle.device_rules.proofs.{AllLeave.IsLeft, AllLeave.all_leave, EffectKinds.removals_pass, GivingBack.leaves_are, GivingBack.marked_removals}
+use Rattle.device_rules.proofs.{Going.IsGoing, Going.going_ready, Going.some_going, Going.some_owned, HostOfTagsSet.Told, Leaving.last_offer-over, Leaving.leaves_tags}
+use Rattle.device_rules.proofs.{LeftStanding.going_of, LeftStanding.going_rule, LeftStanding.marked_has, OneAnswer.tags_of-has, OneLeave.loose, OpenLive.has_cut, Overlaps.not_broken}
+use Rattle.device_rules.{proofs.Quiet.quiet_front, proofs.Quiet.unhold_quiet, proofs.ResponseSteps.told_same, specs.Outcomes.log_full, specs.Pictures.Picture, specs.Pictures.picture_after}
 use Rattle.device_rules.specs.ReleaseOutcomes.{give_back_changes, is_cleaning, is_forced, leaves, policy_in, removals, remove_rule, removed}
-use Rattle.device_rules.specs.ResponseOutcomes.{unhold}
-use Rattle.device_rules.specs.Tags.{last_offer_after, tag_region, tag_runs}
-use Rattle.device_rules.specs.Views.{View}
-use Rattle.device_rules.specs.Pictures.{Picture, picture_after}
-use Rattle.device_rules.specs.Standing.{Sound}
-use Rattle.device_rules.proofs.AllLeave.{IsLeft, all_leave}
-use Rattle.device_rules.proofs.Going.{IsGoing, going_ready, some_going, some_owned}
-use Rattle.device_rules.proofs.LeftStanding.{going_of, going_rule, marked_has}
-use Rattle.device_rules.proofs.OneAnswer.{tags_of-has}
-use Rattle.device_rules.proofs.OneLeave.{loose}
-use Rattle.device_rules.proofs.OpenLive.{has_cut}
-use Rattle.device_rules.proofs.Overlaps.{not_broken}
+use Rattle.device_rules.specs.{ResponseOutcomes.unhold, Standing.Sound, Tags.last_offer_after, Tags.tag_region, Tags.tag_runs, Views.View}
 use Rattle.selection.proofs.Prescribed.{neither}
-use Rattle.device_rules.proofs.Quiet.{quiet_front, unhold_quiet}
-use Rattle.device_rules.proofs.EffectKinds.{removals_pass}
-use Rattle.device_rules.proofs.Leaving.{last_offer-over, leaves_tags}
-use Rattle.device_rules.proofs.ResponseSteps.{told_same}
-use Rattle.device_rules.proofs.HostOfTagsSet.{Told}
-use Rattle.device_rules.proofs.GivingBack.{leaves_are, marked_removals}
 
 pub both_ways : (a b : Bool) → (a ≡ true → b ≡ true) → (b ≡ true → a ≡ true) → a ≡ b
 both_ways true b there back = sym (there refl)

@@ -1,35 +1,18 @@
 -- What stands once extents have left their host, and which tags that may end.
 use Rattle.std.proofs.Common.{◌≡◌, ◌⊎◌, ℕ, ◌+◌, ◌<◌, ◌≤◌, true, false, not, ◌&&◌, ◌||◌, ◌==◌, List, [], ◌++◌, length, map, None, ap, sym, subst, ◌∙◌, inl, inr, arith, length-append}
-use Rattle.std.specs.Prelude.{Option, flat_map}
-use Rattle.std.specs.List.{AllByRecursion, list_any}
+use Rattle.std.{specs.Prelude.Option, specs.Prelude.flat_map, specs.List.AllByRecursion, specs.List.list_any, proofs.lemmas.List.Concat.length-flat_map}
 use Rattle.std.proofs.lemmas.Bool.{and_cases, and_from, and_parts, cases_Bool, eqb-true, false≢true, not-false, or_left, or_right}
-use Rattle.std.proofs.lemmas.List.Concat.{length-flat_map}
-use Rattle.cci_codec.specs.dcd_base.specs.declared.capacity.Extent.{Extent}
-use Rattle.cci_codec.specs.dcd_base.specs.declared.capacity.Tag.{Tag}
+use Rattle.cci_codec.specs.dcd_base.specs.{Limits.extents_supported, Words.◌or◌, Words.has_tag, Words.is_zero_tag, Words.same_tag, declared.capacity.Extent.Extent, declared.capacity.Tag.Tag}
 use Rattle.cci_codec.specs.dcd_base.specs.declared.ids.HostId.{HostId}
-use Rattle.cci_codec.specs.dcd_base.specs.Limits.{extents_supported}
-use Rattle.cci_codec.specs.dcd_base.specs.Words.{◌or◌, has_tag, is_zero_tag, same_tag}
-use Rattle.extent_list.specs.dcd_codes.specs.declared.rules.Rule.{Rule}
-use Rattle.extent_list.specs.dcd_codes.specs.Rules.{◌breaks◌, each_in}
 use Rattle.extent_list.specs.ExtentLists.{count_in, has_extent_of, is_in, is_whole, marked, owner_of, tags_of}
-use Rattle.extent_list.specs.Listing.{incomplete, is_shareable_at, misplaced, not_whole, overlapping}
-use Rattle.extent_list.specs.media_map.specs.region_config.specs.Configurations.{Configuration}
-use Rattle.extent_list.specs.media_map.specs.region_config.specs.Soundness.{IsSound}
-use Rattle.extent_list.specs.media_map.specs.region_config.specs.Granules.{hosts_of, region_spec, with_blocks}
-use Rattle.extent_list.specs.media_map.specs.Places.{region_at}
-use Rattle.selection.proofs.Placed.{IsPlaced, placed}
-use Rattle.device_rules.specs.Pictures.{Picture, extents_at, is_with_a_host, lives}
-use Rattle.device_rules.specs.Standing.{IsMade, Sound, Stands}
-use Rattle.device_rules.proofs.AllLeave.{IsLeft, behind_from}
-use Rattle.device_rules.proofs.Going.{IsGoing}
-use Rattle.device_rules.proofs.Homes.{made_region, placed_made, region_at_same, shareable_same}
-use Rattle.device_rules.proofs.ListSteps.{any-map, each-change}
-use Rattle.device_rules.proofs.OneAnswer.{tags_of-has}
-use Rattle.device_rules.proofs.OneLeave.{loose, stands_from, whole_blocks}
-use Rattle.device_rules.proofs.OneOffer.{any-implies}
-use Rattle.device_rules.proofs.Overlaps.{Spread, not_broken, row_each, row_spread}
-use Rattle.selection.proofs.Prescribed.{neither}
-use Rattle.device_rules.proofs.Settling.{any-range}
+use Rattle.extent_list.specs.{Listing.incomplete, Listing.is_shareable_at, Listing.misplaced, Listing.not_whole, Listing.overlapping, dcd_codes.specs.Rules.◌breaks◌, dcd_codes.specs.Rules.each_in}
+use Rattle.extent_list.specs.{dcd_codes.specs.declared.rules.Rule.Rule, media_map.specs.Places.region_at, media_map.specs.region_config.specs.Configurations.Configuration}
+use Rattle.extent_list.specs.media_map.specs.region_config.specs.{Granules.hosts_of, Granules.region_spec, Granules.with_blocks, Soundness.IsSound}
+use Rattle.selection.proofs.{Placed.IsPlaced, Placed.placed, Prescribed.neither}
+use Rattle.device_rules.proofs.{AllLeave.IsLeft, AllLeave.behind_from, Going.IsGoing, Homes.made_region, Homes.placed_made, Homes.region_at_same, Homes.shareable_same}
+use Rattle.device_rules.proofs.{ListSteps.any-map, ListSteps.each-change, OneAnswer.tags_of-has, OneLeave.loose, OneLeave.stands_from, OneLeave.whole_blocks, OneOffer.any-implies}
+use Rattle.device_rules.proofs.{Overlaps.Spread, Overlaps.not_broken, Overlaps.row_each, Overlaps.row_spread, Settling.any-range}
+use Rattle.device_rules.specs.{Pictures.Picture, Pictures.extents_at, Pictures.is_with_a_host, Pictures.lives, Standing.IsMade, Standing.Sound, Standing.Stands}
 
 module _ (c : Configuration) (sound : IsSound c) (p : Picture) (before : Sound c p) (h : HostId) (host : h < c.hosts) (W : Extent → Type 0)
     (of_shared : (y : Extent) → (region_spec c (region_at c h y.start)).shareable ≡ true → W y) (q : Picture) (ys : List Extent)

@@ -1,44 +1,25 @@
 -- After every legal journal each log is one that its history tells, and no record of a host's log ever found it full.
 use Rattle.std.proofs.Common.{◌≡◌, ℕ, zero, suc, ◌+◌, ◌<◌, ◌≤◌, Bool, true, false, List, [], ◌∷◌, ◌++◌, None, length, inl, inr, refl, sym, ap, subst, ◌∙◌, arith, append-nil}
+use Rattle.std.{proofs.lemmas.Bool.cases_eq, proofs.lemmas.Bool.ne_eqb, proofs.lemmas.List.Sums.fold-append, specs.List.list_all, specs.List.range_with_len}
 use Rattle.std.specs.Prelude.{fold, map, if◌then◌else◌}
-use Rattle.std.specs.List.{list_all, range_with_len}
-use Rattle.std.proofs.lemmas.Bool.{cases_eq, ne_eqb}
-use Rattle.std.proofs.lemmas.List.Sums.{fold-append}
-use Rattle.cci_codec.specs.dcd_base.specs.declared.capacity.Extent.{Extent}
-use Rattle.cci_codec.specs.dcd_base.specs.declared.capacity.Tag.{Tag}
-use Rattle.cci_codec.specs.dcd_base.specs.declared.ids.HostId.{HostId}
-use Rattle.cci_codec.specs.dcd_base.specs.declared.steps.LogId.{LogId}
-use Rattle.extent_list.specs.dcd_codes.specs.Rules.{first_by}
-use Rattle.event_log.proofs.Histories.{begins}
-use Rattle.event_log.specs.Logs.{IsHistory, Log, empty_log, room_in}
-use Rattle.event_records.specs.declared.events.Event.{Event}
-use Rattle.event_records.specs.declared.events.EventKind.{EventKind}
+use Rattle.cci_codec.specs.dcd_base.specs.declared.{capacity.Extent.Extent, capacity.Tag.Tag, ids.HostId.HostId, steps.LogId.LogId}
+use Rattle.extent_list.specs.{dcd_codes.specs.Rules.first_by, media_map.specs.region_config.proofs.Searches.or_parts, media_map.specs.region_config.specs.Configurations.Configuration}
+use Rattle.event_log.{proofs.Histories.begins, specs.Logs.IsHistory, specs.Logs.Log, specs.Logs.empty_log, specs.Logs.room_in}
+use Rattle.event_records.specs.declared.events.{Event.Event, EventKind.EventKind}
 use Rattle.fm_payloads.specs.declared.requests.FmRequest.{FmRequest}
 use Rattle.host_payloads.specs.declared.requests.HostRequest.{HostRequest}
-use Rattle.journal_core.proofs.JournalSteps.{effects-push}
-use Rattle.journal_core.specs.Entries.{effects}
-use Rattle.journal_core.specs.declared.entries.Entry.{Entry}
-use Rattle.journal_core.specs.declared.outcome.Effect.{Effect}
-use Rattle.extent_list.specs.media_map.specs.region_config.proofs.Searches.{or_parts}
-use Rattle.extent_list.specs.media_map.specs.region_config.specs.Configurations.{Configuration}
+use Rattle.journal_core.{proofs.JournalSteps.effects-push, specs.Entries.effects, specs.declared.entries.Entry.Entry, specs.declared.outcome.Effect.Effect}
+use Rattle.device_rules.proofs.{Clearing.clear-history, Clearing.clear-spares, EffectKinds.reference_passes, EffectKinds.removals_pass, EffectKinds.unhold_passes, EffectKinds.zeroes_pass}
+use Rattle.device_rules.proofs.{Leaving.both_pass, LegalSteps.Cases, LegalSteps.by_steps, LegalSteps.step_case}
+use Rattle.device_rules.proofs.LogHistories.{leaves_logs, told, entered_all-history, entered_all-other, entered_all-spares, none_missed}
 use Rattle.device_rules.specs.Adding.{add_outcome, add_rule, offered}
 use Rattle.device_rules.specs.Answers.{host_outcome, host_rule, manager_outcome, manager_rule, scrubbed, zeroes}
-use Rattle.device_rules.specs.EventCommands.{clear_changes, clear_outcome, clear_rule}
-use Rattle.device_rules.specs.Legal.{Legal, Meets}
+use Rattle.device_rules.specs.{EventCommands.clear_changes, EventCommands.clear_outcome, EventCommands.clear_rule, Legal.Legal, Legal.Meets, LogLaws.LogsKept, LogLaws.spares_hosts}
 use Rattle.device_rules.specs.Logs.{log_after, log_of, same_log}
 use Rattle.device_rules.specs.Outcomes.{effects_of, entered_all, log_full, no_extent, record_for, records_of_extents}
 use Rattle.device_rules.specs.ReleaseOutcomes.{is_cleaning, is_forced, removals, remove_outcome, remove_rule, removed}
-use Rattle.device_rules.specs.Settings.{set_outcome}
-use Rattle.device_rules.specs.TagCommands.{add_reference_outcome, remove_reference_outcome}
-use Rattle.device_rules.specs.Tags.{is_referenced}
+use Rattle.device_rules.specs.{ResponseOutcomes.unhold, Settings.set_outcome, TagCommands.add_reference_outcome, TagCommands.remove_reference_outcome, Tags.is_referenced}
 use Rattle.device_rules.specs.Views.{View, view_after, view_of}
-use Rattle.device_rules.proofs.Clearing.{clear-history, clear-spares}
-use Rattle.device_rules.specs.ResponseOutcomes.{unhold}
-use Rattle.device_rules.proofs.EffectKinds.{reference_passes, removals_pass, unhold_passes, zeroes_pass}
-use Rattle.device_rules.proofs.Leaving.{both_pass}
-use Rattle.device_rules.proofs.LegalSteps.{Cases, by_steps, step_case}
-use Rattle.device_rules.proofs.LogHistories.{leaves_logs, told, entered_all-history, entered_all-other, entered_all-spares, none_missed}
-use Rattle.device_rules.specs.LogLaws.{LogsKept, spares_hosts}
 use Rattle.device_rules.proofs.LogOutcomes.{Keeps, held_leaves, kept_host, kept_release, kept_response, kept_still, kept_told, last_of, length-log_records, room_for}
 
 -- ---- a record for each host

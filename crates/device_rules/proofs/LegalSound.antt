@@ -1,42 +1,19 @@
 -- Every entry of a legal journal keeps the invariant, so that every legal journal has it.
 use Rattle.std.proofs.Common.{◌≡◌, ℕ, ◌<◌, Bool, true, false, not, ◌==◌, List, [], ◌∷◌, ◌++◌, length, Option, Some, None, Result, Ok, Err, refl, ap, sym, subst, ◌∙◌, append_assoc, append-nil}
-use Rattle.std.specs.Prelude.{IsTrue, if◌then◌else◌}
-use Rattle.std.specs.List.{list_all}
-use Rattle.std.proofs.lemmas.Bool.{ltb-true}
-use Rattle.cci_codec.specs.dcd_base.specs.declared.ids.HostId.{HostId}
-use Rattle.cci_codec.specs.dcd_base.specs.declared.steps.Actor.{Actor}
+use Rattle.std.{specs.Prelude.IsTrue, specs.Prelude.if◌then◌else◌, specs.List.list_all, proofs.lemmas.Bool.ltb-true}
+use Rattle.cci_codec.specs.dcd_base.specs.declared.{faults.PayloadFault.PayloadFault as HostFault, faults.PayloadFault.PayloadFault as ManagerFault, ids.HostId.HostId, steps.Actor.Actor}
 use Rattle.cci_codec.specs.dcd_base.specs.declared.steps.LogId.{LogId}
-use Rattle.extent_list.specs.dcd_codes.specs.declared.rules.Rule.{Rule}
-use Rattle.host_payloads.specs.declared.requests.HostRequest.{HostRequest}
-use Rattle.cci_codec.specs.dcd_base.specs.declared.faults.PayloadFault.{PayloadFault as HostFault, PayloadFault as ManagerFault}
-use Rattle.host_payloads.specs.HostPayloads.{host_request}
-use Rattle.fm_payloads.specs.declared.requests.FmRequest.{FmRequest}
-use Rattle.fm_payloads.specs.ManagerPayloads.{manager_request}
-use Rattle.extent_list.specs.media_map.specs.region_config.specs.Configurations.{Configuration}
-use Rattle.extent_list.specs.media_map.specs.region_config.specs.Soundness.{IsSound}
+use Rattle.extent_list.specs.{dcd_codes.specs.declared.rules.Rule.Rule, media_map.specs.region_config.specs.Configurations.Configuration, media_map.specs.region_config.specs.Soundness.IsSound}
+use Rattle.host_payloads.specs.{declared.requests.HostRequest.HostRequest, HostPayloads.host_request}
+use Rattle.fm_payloads.specs.{declared.requests.FmRequest.FmRequest, ManagerPayloads.manager_request}
 use Rattle.event_log.specs.Logs.{Log, records_in}
-use Rattle.journal_core.specs.declared.acts.Act.{Act}
-use Rattle.journal_core.specs.declared.entries.Entry.{Entry}
-use Rattle.journal_core.specs.declared.outcome.Effect.{Effect}
-use Rattle.journal_core.specs.declared.outcome.HeldKind.{HeldKind}
-use Rattle.journal_core.specs.Entries.{EachFrom, effects, fits}
-use Rattle.journal_core.proofs.JournalSteps.{effects-push}
+use Rattle.journal_core.{proofs.JournalSteps.effects-push, specs.Entries.EachFrom, specs.Entries.effects, specs.Entries.fits, specs.declared.acts.Act.Act, specs.declared.entries.Entry.Entry}
+use Rattle.journal_core.specs.declared.outcome.{Effect.Effect, HeldKind.HeldKind}
 use Rattle.device_rules.specs.Answers.{dropped, effects_with, host_outcome, host_result, host_rule, manager_outcome, manager_result, manager_rule, scrubbed, unless, zeroes}
-use Rattle.device_rules.specs.EventCommands.{cleared}
-use Rattle.device_rules.specs.Legal.{Legal, Meets, right_answer}
-use Rattle.device_rules.specs.Outcomes.{effects_of}
-use Rattle.device_rules.specs.Logs.{log_of}
-use Rattle.device_rules.specs.ResponseOutcomes.{unhold}
-use Rattle.device_rules.specs.Views.{View, view_of}
-use Rattle.device_rules.specs.Pictures.{picture_of}
-use Rattle.device_rules.specs.Standing.{Sound}
-use Rattle.device_rules.proofs.Adding.{add_keeps}
-use Rattle.device_rules.proofs.Blocking.{set_keeps}
-use Rattle.device_rules.proofs.GivingBack.{give_back_keeps, remove_keeps}
-use Rattle.device_rules.proofs.Holding.{first_is_sound}
-use Rattle.device_rules.proofs.Quiet.{is_quiet, quiet_keeps, quiet_outcome_keeps, unhold_quiet, zeroes_quiet}
-use Rattle.device_rules.proofs.Referring.{add_reference_keeps, remove_reference_keeps}
-use Rattle.device_rules.proofs.Responding.{respond_keeps}
+use Rattle.device_rules.proofs.{Adding.add_keeps, Blocking.set_keeps, GivingBack.give_back_keeps, GivingBack.remove_keeps, Holding.first_is_sound}
+use Rattle.device_rules.proofs.{Quiet.is_quiet, Quiet.quiet_keeps, Quiet.quiet_outcome_keeps, Quiet.unhold_quiet, Quiet.zeroes_quiet, Referring.add_reference_keeps, Referring.remove_reference_keeps}
+use Rattle.device_rules.{proofs.Responding.respond_keeps, specs.EventCommands.cleared, specs.Legal.Legal, specs.Legal.Meets, specs.Legal.right_answer, specs.Logs.log_of, specs.Outcomes.effects_of}
+use Rattle.device_rules.specs.{Pictures.picture_of, ResponseOutcomes.unhold, Standing.Sound, Views.View, Views.view_of}
 
 -- ---- quiet commands
 

@@ -1,30 +1,16 @@
 -- What every legal journal keeps, by its steps: what a step may do, case by case, and one more entry.
 use Rattle.std.proofs.Common.{◌≡◌, ℕ, ◌<◌, Bool, true, false, List, [], ◌∷◌, ◌++◌, Option, Some, None, refl, sym, subst, append_assoc, append-nil}
-use Rattle.std.specs.Prelude.{◌==◌, if◌then◌else◌, IsTrue}
-use Rattle.std.specs.declared.result.Result.{Result}
+use Rattle.std.{proofs.lemmas.Bool.ltb-true, specs.Prelude.◌==◌, specs.Prelude.if◌then◌else◌, specs.Prelude.IsTrue, specs.declared.result.Result.Result}
 use Rattle.std.specs.declared.result.Result.TheVariants.{Ok, Err}
-use Rattle.std.proofs.lemmas.Bool.{ltb-true}
-use Rattle.cci_codec.specs.dcd_base.specs.declared.capacity.Extent.{Extent}
-use Rattle.cci_codec.specs.dcd_base.specs.declared.ids.HostId.{HostId}
+use Rattle.cci_codec.specs.dcd_base.specs.declared.{capacity.Extent.Extent, faults.PayloadFault.PayloadFault as ManagerFault, faults.PayloadFault.PayloadFault as HostFault, ids.HostId.HostId}
 use Rattle.cci_codec.specs.dcd_base.specs.declared.steps.Actor.{Actor}
-use Rattle.extent_list.specs.dcd_codes.specs.declared.rules.Rule.{Rule}
-use Rattle.fm_payloads.specs.ManagerPayloads.{manager_request}
-use Rattle.cci_codec.specs.dcd_base.specs.declared.faults.PayloadFault.{PayloadFault as ManagerFault, PayloadFault as HostFault}
-use Rattle.fm_payloads.specs.declared.requests.FmRequest.{FmRequest}
-use Rattle.host_payloads.specs.HostPayloads.{host_request}
-use Rattle.host_payloads.specs.declared.requests.HostRequest.{HostRequest}
-use Rattle.journal_core.proofs.EachSteps.{Each-push}
-use Rattle.journal_core.specs.Entries.{EachFrom, effects, fits}
-use Rattle.journal_core.specs.declared.acts.Act.{Act}
-use Rattle.journal_core.specs.declared.entries.Entry.{Entry}
-use Rattle.journal_core.specs.declared.outcome.Effect.{Effect}
-use Rattle.journal_core.specs.declared.outcome.HeldKind.{HeldKind}
-use Rattle.extent_list.specs.media_map.specs.region_config.specs.Configurations.{Configuration}
+use Rattle.extent_list.specs.{dcd_codes.specs.declared.rules.Rule.Rule, media_map.specs.region_config.specs.Configurations.Configuration}
+use Rattle.fm_payloads.specs.{ManagerPayloads.manager_request, declared.requests.FmRequest.FmRequest}
+use Rattle.host_payloads.specs.{HostPayloads.host_request, declared.requests.HostRequest.HostRequest}
+use Rattle.journal_core.{proofs.EachSteps.Each-push, specs.Entries.EachFrom, specs.Entries.effects, specs.Entries.fits, specs.declared.acts.Act.Act, specs.declared.entries.Entry.Entry}
+use Rattle.journal_core.specs.declared.outcome.{Effect.Effect, HeldKind.HeldKind}
 use Rattle.device_rules.specs.Answers.{dropped, effects_with, host_outcome, host_result, host_rule, manager_outcome, manager_result, manager_rule, scrubbed, unless, zeroes}
-use Rattle.device_rules.specs.Legal.{Legal, Meets, right_answer}
-use Rattle.device_rules.specs.Outcomes.{Outcome, effects_of}
-use Rattle.device_rules.specs.ResponseOutcomes.{unhold}
-use Rattle.device_rules.specs.Views.{View, view_of}
+use Rattle.device_rules.specs.{Legal.Legal, Legal.Meets, Legal.right_answer, Outcomes.Outcome, Outcomes.effects_of, ResponseOutcomes.unhold, Views.View, Views.view_of}
 
 -- ---- one more entry
 

@@ -1,9 +1,7 @@
 -- What holds of each member of a list, and how many members of it pass a test.
 use Rattle.std.proofs.Common.{◌≡◌, ℕ, suc, ◌+◌, ◌<◌, Bool, true, false, ◌||◌, List, [], ◌∷◌, ◌++◌, length, map, refl, ap, sym, ◌∙◌, inl, inr, arith, length-append, append_assoc}
-use Rattle.std.specs.Prelude.{drop, flat_map}
-use Rattle.std.specs.List.{AllByRecursion, filter, list_all, list_any}
-use Rattle.std.proofs.lemmas.Bool.{and_from, cases_Bool, false≢true, or_parts}
-use Rattle.std.proofs.lemmas.List.Elements.{filter-append}
+use Rattle.std.proofs.lemmas.{Bool.and_from, Bool.cases_Bool, Bool.false≢true, Bool.or_parts, List.Elements.filter-append}
+use Rattle.std.specs.{List.AllByRecursion, List.filter, List.list_all, List.list_any, Prelude.drop, Prelude.flat_map}
 
 -- ---- of each
 

@@ -1,15 +1,10 @@
 -- What the manager is shown of the table.
 use Rattle.std.proofs.Common.{◌≡◌, List, [], ◌∷◌, map, length, refl, sym, ap, ◌∙◌}
-use Rattle.std.specs.List.{AllByRecursion}
-use Rattle.std.proofs.lemmas.List.{length-map}
+use Rattle.std.{specs.List.AllByRecursion, proofs.lemmas.List.length-map}
 use Rattle.journal_core.specs.declared.outcome.Effect.{Effect}
 use Rattle.extent_list.specs.media_map.specs.region_config.specs.Configurations.{Configuration}
-use Rattle.tag_refs.specs.Tables.{tag_view}
-use Rattle.tag_refs.specs.declared.entries.TagEntry.{TagEntry}
-use Rattle.device_rules.specs.TagCommands.{tag_seen}
-use Rattle.device_rules.specs.Tags.{open_tags}
-use Rattle.device_rules.specs.TagTable.{IsEntry, IsTable}
-use Rattle.device_rules.proofs.TagEntries.{tags_in}
+use Rattle.tag_refs.specs.{Tables.tag_view, declared.entries.TagEntry.TagEntry}
+use Rattle.device_rules.{specs.TagCommands.tag_seen, specs.Tags.open_tags, specs.TagTable.IsEntry, specs.TagTable.IsTable, proofs.TagEntries.tags_in}
 
 -- an entry shows what is seen of its tag
 seen : (c : Configuration) (past : List Effect) (e : TagEntry) → IsEntry c past e → tag_seen c past e.tag ≡ tag_view e

@@ -1,13 +1,10 @@
 -- Since when a tag lives, over more effects.
 use Rattle.std.proofs.Common.{◌≡◌, ℕ, ◌+◌, ◌<◌, Bool, true, false, List, [], ◌∷◌, ◌++◌, length, length-append, refl, sym, ap, subst, ◌∙◌, arith, append_assoc, append-nil}
-use Rattle.std.specs.Prelude.{if◌then◌else◌}
-use Rattle.std.proofs.lemmas.Bool.{and_parts, false≢true}
+use Rattle.std.{specs.Prelude.if◌then◌else◌, proofs.lemmas.Bool.and_parts, proofs.lemmas.Bool.false≢true}
 use Rattle.cci_codec.specs.dcd_base.specs.declared.capacity.Tag.{Tag}
 use Rattle.extent_list.specs.media_map.specs.region_config.specs.Configurations.{Configuration}
 use Rattle.journal_core.specs.declared.outcome.Effect.{Effect}
-use Rattle.device_rules.specs.Invariants.{live_since}
-use Rattle.device_rules.specs.Tags.{is_live, is_live_shareable}
-use Rattle.device_rules.proofs.Fading.{Lasts}
+use Rattle.device_rules.{specs.Invariants.live_since, specs.Tags.is_live, specs.Tags.is_live_shareable, proofs.Fading.Lasts}
 
 module _ (c : Configuration) (t : Tag) where
   since-append : (before : List Effect) (since : ℕ) (past new : List Effect) → live_since c t before since (past ++ new) ≡ live_since c t (before ++ past) (live_since c t before since past) new

@@ -1,18 +1,14 @@
 -- A log that gets more records stays one that its history tells, and no record of a host's log finds it full.
 use Rattle.std.proofs.Common.{◌≡◌, ◌<◌, ◌≤◌, Bool, true, false, ◌&&◌, List, [], ◌∷◌, ◌++◌, length, inl, inr, refl, sym, ap, subst, ◌∙◌, arith, append-nil}
+use Rattle.std.{proofs.lemmas.Bool.and_parts, proofs.lemmas.Bool.cases_Bool, proofs.lemmas.Bool.eqb-true, proofs.lemmas.Bool.false≢true, specs.List.list_all}
 use Rattle.std.specs.Prelude.{fold, flat_map, ◌==◌, if◌then◌else◌}
-use Rattle.std.specs.List.{list_all}
-use Rattle.std.proofs.lemmas.Bool.{and_parts, cases_Bool, eqb-true, false≢true}
-use Rattle.cci_codec.specs.dcd_base.specs.declared.ids.HostId.{HostId}
-use Rattle.cci_codec.specs.dcd_base.specs.declared.steps.LogId.{LogId}
+use Rattle.cci_codec.specs.dcd_base.specs.declared.{ids.HostId.HostId, steps.LogId.LogId}
 use Rattle.event_log.proofs.Histories.{stays}
 use Rattle.event_log.specs.Logs.{IsHistory, Log, cleared_of, missed_by, next_handle, recorded, reset, room_in}
 use Rattle.event_records.specs.declared.events.Event.{Event}
 use Rattle.journal_core.specs.declared.outcome.Effect.{Effect}
-use Rattle.device_rules.specs.Logs.{log_after, log_of, same_log}
-use Rattle.device_rules.specs.Outcomes.{entered, entered_all}
-use Rattle.device_rules.specs.LogLaws.{spares_hosts}
 use Rattle.device_rules.proofs.LogSteps.{IsSound, IsSound-recorded, entered-room, room-recorded, same_log-self}
+use Rattle.device_rules.specs.{LogLaws.spares_hosts, Logs.log_after, Logs.log_of, Logs.same_log, Outcomes.entered, Outcomes.entered_all}
 
 -- no log changes
 abbrev pub leaves_logs : Effect → Bool

@@ -1,31 +1,19 @@
 -- What a command makes of the logs: each stays one that its history tells, and no record of a host's finds it full.
 use Rattle.std.proofs.Common.{◌≡◌, ℕ, suc, ◌≤◌, Bool, true, false, List, [], ◌∷◌, ◌++◌, Option, None, length, refl, sym, ap, subst}
-use Rattle.std.specs.Prelude.{fold, map, nat_lt}
-use Rattle.std.specs.List.{list_all}
-use Rattle.std.proofs.lemmas.Bool.{ltb-false}
-use Rattle.std.proofs.lemmas.Option.{none-some}
-use Rattle.cci_codec.specs.dcd_base.specs.Words.{◌or◌}
-use Rattle.cci_codec.specs.dcd_base.specs.declared.capacity.Extent.{Extent}
-use Rattle.cci_codec.specs.dcd_base.specs.declared.ids.HostId.{HostId}
-use Rattle.cci_codec.specs.dcd_base.specs.declared.steps.LogId.{LogId}
-use Rattle.extent_list.specs.dcd_codes.specs.Rules.{◌breaks◌}
-use Rattle.extent_list.specs.dcd_codes.specs.declared.rules.Rule.{Rule}
-use Rattle.event_log.specs.Logs.{IsHistory, Log, room_in}
-use Rattle.event_records.specs.declared.events.Event.{Event}
-use Rattle.event_records.specs.declared.events.EventKind.{EventKind}
-use Rattle.journal_core.specs.declared.outcome.Effect.{Effect}
-use Rattle.extent_list.specs.media_map.specs.region_config.proofs.Searches.{or_parts}
+use Rattle.std.{specs.Prelude.fold, specs.Prelude.map, specs.Prelude.nat_lt, specs.List.list_all, proofs.lemmas.Bool.ltb-false, proofs.lemmas.Option.none-some}
+use Rattle.cci_codec.specs.dcd_base.specs.{Words.◌or◌, declared.capacity.Extent.Extent, declared.ids.HostId.HostId, declared.steps.LogId.LogId}
+use Rattle.extent_list.specs.{ExtentLists.marked, dcd_codes.specs.Rules.◌breaks◌, dcd_codes.specs.declared.rules.Rule.Rule, media_map.specs.region_config.proofs.Searches.or_parts}
 use Rattle.extent_list.specs.media_map.specs.region_config.specs.Configurations.{Configuration}
-use Rattle.extent_list.specs.ExtentLists.{marked}
-use Rattle.device_rules.specs.Logs.{log_after, log_of}
-use Rattle.device_rules.specs.Outcomes.{Outcome, effects_of, ended, entered_all, log_full, no_extent, record_for, records_of_extents}
-use Rattle.device_rules.specs.ReleaseOutcomes.{give_back_changes, give_back_outcome}
-use Rattle.device_rules.specs.ResponseOutcomes.{respond_changes, respond_outcome, response_records}
-use Rattle.device_rules.specs.Views.{View, view_after}
+use Rattle.event_log.specs.Logs.{IsHistory, Log, room_in}
+use Rattle.event_records.specs.declared.events.{Event.Event, EventKind.EventKind}
+use Rattle.journal_core.specs.declared.outcome.Effect.{Effect}
 use Rattle.device_rules.proofs.EffectKinds.{PassHeld, PassLists, give_back_passes, respond_passes}
 use Rattle.device_rules.proofs.Leaving.{after_front, all_pass, both_pass, map_passes, over-leaving}
-use Rattle.device_rules.specs.LogLaws.{spares_hosts}
 use Rattle.device_rules.proofs.LogHistories.{leaves_logs, told, entered_all-manager, entered_all-spares, log-left, spares-left, told_one, told_one-history}
+use Rattle.device_rules.specs.{LogLaws.spares_hosts, Logs.log_after, Logs.log_of}
+use Rattle.device_rules.specs.Outcomes.{Outcome, effects_of, ended, entered_all, log_full, no_extent, record_for, records_of_extents}
+use Rattle.device_rules.specs.ReleaseOutcomes.{give_back_changes, give_back_outcome}
+use Rattle.device_rules.specs.{ResponseOutcomes.respond_changes, ResponseOutcomes.respond_outcome, ResponseOutcomes.response_records, Views.View, Views.view_after}
 
 -- ---- room for records, as the rows ask for it
 

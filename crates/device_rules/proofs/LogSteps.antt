@@ -1,13 +1,11 @@
 -- A log that has room takes all records that are told to it.
 use Rattle.std.proofs.Common.{◌≡◌, ◌-◌, ◌<◌, ◌≤◌, true, List, [], ◌∷◌, length, refl, ap, ◌∙◌, arith, length-append, eq-eqb, length-drop}
-use Rattle.std.specs.Prelude.{fold}
-use Rattle.std.proofs.lemmas.Bool.{cond-false, ne_eqb}
+use Rattle.std.{specs.Prelude.fold, proofs.lemmas.Bool.cond-false, proofs.lemmas.Bool.ne_eqb}
 use Rattle.cci_codec.specs.dcd_base.specs.declared.steps.LogId.{LogId}
 use Rattle.event_records.specs.declared.events.Event.{Event}
 use Rattle.journal_core.specs.declared.outcome.Effect.{Effect}
 use Rattle.event_log.specs.Logs.{Log, room_in, next_handle, logged, recorded}
-use Rattle.device_rules.specs.Logs.{log_after, same_log}
-use Rattle.device_rules.specs.Outcomes.{entered, entered_all}
+use Rattle.device_rules.specs.{Logs.log_after, Logs.same_log, Outcomes.entered, Outcomes.entered_all}
 
 pub same_log-self : (l : LogId) → same_log l l ≡ true
 same_log-self (LogId.Host h) = eq-eqb h h refl

@@ -1,40 +1,18 @@
 -- The table after an offer: 5604h.
 use Rattle.std.proofs.Common.{◌≡◌, ℕ, ◌<◌, Bool, true, false, ◌&&◌, ◌||◌, not, ◌==◌, List, [], ◌∷◌, ◌++◌, map, Some, refl, sym, ap, subst, ◌∙◌, inl, inr}
-use Rattle.std.specs.Prelude.{if◌then◌else◌}
-use Rattle.std.specs.List.{AllByRecursion, list_any}
-use Rattle.std.proofs.lemmas.Bool.{and_parts, cases_Bool, eq-eqb, false≢true, or_from, or_left, or_parts, or_right}
-use Rattle.std.proofs.lemmas.List.{map-append}
-use Rattle.std.proofs.lemmas.List.Folds.{list_any-append}
-use Rattle.cci_codec.specs.dcd_base.specs.Words.{has_tag, is_zero_tag, same_tag}
-use Rattle.cci_codec.specs.dcd_base.specs.declared.capacity.Extent.{Extent}
-use Rattle.cci_codec.specs.dcd_base.specs.declared.capacity.Tag.{Tag}
+use Rattle.std.proofs.lemmas.{Bool.and_parts, Bool.cases_Bool, Bool.eq-eqb, Bool.false≢true, Bool.or_from, Bool.or_left, Bool.or_parts, Bool.or_right, List.map-append, List.Folds.list_any-append}
+use Rattle.std.specs.{List.AllByRecursion, List.list_any, Prelude.if◌then◌else◌}
+use Rattle.cci_codec.specs.dcd_base.specs.{Hosts.with_host, Hosts.without_host, Words.has_tag, Words.is_zero_tag, Words.same_tag, declared.capacity.Extent.Extent, declared.capacity.Tag.Tag}
 use Rattle.cci_codec.specs.dcd_base.specs.declared.ids.HostId.{HostId}
-use Rattle.extent_list.specs.ExtentLists.{has_extent_of}
+use Rattle.extent_list.{proofs.EachTag.or_false, specs.ExtentLists.has_extent_of, specs.media_map.specs.Places.region_at, specs.media_map.specs.Places.run_of}
+use Rattle.extent_list.specs.media_map.specs.region_config.specs.{Configurations.Configuration, Granules.hosts_of, Granules.region_spec, Soundness.IsSound}
 use Rattle.journal_core.specs.declared.outcome.Effect.{Effect}
-use Rattle.extent_list.specs.media_map.specs.Places.{region_at, run_of}
-use Rattle.extent_list.specs.media_map.specs.region_config.specs.Configurations.{Configuration}
-use Rattle.extent_list.specs.media_map.specs.region_config.specs.Granules.{hosts_of, region_spec}
-use Rattle.extent_list.specs.media_map.specs.region_config.specs.Soundness.{IsSound}
-use Rattle.cci_codec.specs.dcd_base.specs.Hosts.{with_host, without_host}
-use Rattle.tag_refs.specs.Tables.{opened}
-use Rattle.tag_refs.specs.declared.entries.TagEntry.{TagEntry}
-use Rattle.device_rules.specs.Hosts.{accepted_of}
-use Rattle.device_rules.specs.TagCommands.{host_bits}
+use Rattle.tag_refs.specs.{Tables.opened, declared.entries.TagEntry.TagEntry}
+use Rattle.device_rules.proofs.{Adding.IsAdded, Holding.present_whole, Homes.made_region, HostBits.host_bits-change, HostBits.host_bits-none, HostBits.host_bits-same}
+use Rattle.device_rules.proofs.{HostOfTagsSet.Told, HostOfTagsSet.told_entry, ListSteps.each-append, OneOffer.IsShared, OneOffer.offer_lives, Pictures.picture-append}
+use Rattle.device_rules.{proofs.TagEntries.each_open, proofs.TagEntries.uses, proofs.TagSteps.same_tag-back, proofs.TagSteps.same_tag-is, proofs.TagSteps.same_tag-self, specs.Hosts.accepted_of}
+use Rattle.device_rules.specs.{Pictures.Picture, Pictures.lives, Pictures.picture_after, Pictures.picture_of, Standing.Sound, TagCommands.host_bits, TagTable.IsEntry, TagTable.IsTable, TagTable.among}
 use Rattle.device_rules.specs.Tags.{is_accepted_by, is_offered_to, is_referenced, last_offer, open_tags, tag_region, tag_runs}
-use Rattle.device_rules.specs.Pictures.{Picture, lives, picture_after, picture_of}
-use Rattle.device_rules.specs.Standing.{Sound}
-use Rattle.device_rules.proofs.Adding.{IsAdded}
-use Rattle.device_rules.proofs.Holding.{present_whole}
-use Rattle.device_rules.proofs.Homes.{made_region}
-use Rattle.device_rules.proofs.ListSteps.{each-append}
-use Rattle.device_rules.proofs.OneOffer.{IsShared, offer_lives}
-use Rattle.device_rules.proofs.Pictures.{picture-append}
-use Rattle.device_rules.proofs.TagSteps.{same_tag-back, same_tag-is, same_tag-self}
-use Rattle.device_rules.specs.TagTable.{IsEntry, IsTable, among}
-use Rattle.device_rules.proofs.HostBits.{host_bits-change, host_bits-none, host_bits-same}
-use Rattle.device_rules.proofs.TagEntries.{each_open, uses}
-use Rattle.device_rules.proofs.HostOfTagsSet.{Told, told_entry}
-use Rattle.extent_list.proofs.EachTag.{or_false}
 
 -- extents of one tag have no other
 none_of_tag : (t u : Tag) (xs : List Extent) → AllByRecursion (λ x. x.tag ≡ t) xs → same_tag t u ≡ false → has_extent_of u xs ≡ false

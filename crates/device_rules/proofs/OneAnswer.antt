@@ -1,33 +1,20 @@
 -- An answer that takes parts of the oldest offer leaves what stands standing.
 use Rattle.std.proofs.Common.{◌≡◌, ◌⊎◌, ℕ, ◌+◌, ◌-◌, ◌/◌, ◌%◌, ◌<◌, ◌≤◌, Bool, true, false, not, ◌&&◌, ◌||◌, ◌==◌, List, [], ◌∷◌, ◌++◌, length, map, refl, ap, sym, subst, ◌∙◌, inl, inr, arith, length-append, eqb}
+use Rattle.std.proofs.lemmas.{Bool.and_from, Bool.and_parts, Bool.cases_Bool, Bool.eq-eqb, Bool.eqb-true, Bool.false≢true, Bool.or_left, Bool.or_right, List.length-map, List.map-append}
+use Rattle.std.{proofs.lemmas.List.Concat.length-flat_map, proofs.lemmas.List.Folds.list_any-append, specs.List.AllByRecursion, specs.List.list_any}
 use Rattle.std.specs.Prelude.{drop, flat_map, fold, if◌then◌else◌}
-use Rattle.std.specs.List.{AllByRecursion, list_any}
-use Rattle.std.proofs.lemmas.Bool.{and_from, and_parts, cases_Bool, eq-eqb, eqb-true, false≢true, or_left, or_right}
-use Rattle.std.proofs.lemmas.List.{length-map, map-append}
-use Rattle.std.proofs.lemmas.List.Concat.{length-flat_map}
-use Rattle.std.proofs.lemmas.List.Folds.{list_any-append}
-use Rattle.cci_codec.specs.dcd_base.specs.declared.capacity.Extent.{Extent}
-use Rattle.cci_codec.specs.dcd_base.specs.declared.capacity.Tag.{Tag}
-use Rattle.cci_codec.specs.dcd_base.specs.declared.ids.HostId.{HostId}
-use Rattle.cci_codec.specs.dcd_base.specs.declared.media.Run.{Run}
-use Rattle.cci_codec.specs.dcd_base.specs.Limits.{extents_supported}
-use Rattle.cci_codec.specs.dcd_base.specs.Words.{has_granule, has_in_runs, has_tag, is_zero_tag, same_tag}
-use Rattle.extent_list.specs.media_map.specs.region_config.specs.Configurations.{Configuration}
-use Rattle.extent_list.specs.media_map.specs.region_config.specs.Soundness.{IsSound}
-use Rattle.extent_list.specs.media_map.specs.region_config.specs.Granules.{base_of, first_granule, granule_size, hosts_of, region_spec}
-use Rattle.extent_list.specs.media_map.specs.Places.{region_at, run_of}
+use Rattle.cci_codec.specs.dcd_base.specs.{Limits.extents_supported, Words.has_granule, Words.has_in_runs, Words.has_tag, Words.is_zero_tag, Words.same_tag, declared.capacity.Extent.Extent}
+use Rattle.cci_codec.specs.dcd_base.specs.declared.{capacity.Tag.Tag, ids.HostId.HostId, media.Run.Run}
 use Rattle.extent_list.specs.ExtentLists.{count_in, has_extent_of, is_in, is_whole, lies_in, marked, owner_of, tags_of}
-use Rattle.journal_core.specs.declared.outcome.Effect.{Effect}
-use Rattle.journal_core.specs.Holders.{holding_after}
+use Rattle.extent_list.specs.media_map.specs.{Places.region_at, Places.run_of, region_config.specs.Configurations.Configuration}
+use Rattle.extent_list.specs.media_map.specs.region_config.specs.{Granules.base_of, Granules.first_granule, Granules.granule_size, Granules.hosts_of, Granules.region_spec, Soundness.IsSound}
+use Rattle.journal_core.specs.{declared.outcome.Effect.Effect, Holders.holding_after}
+use Rattle.device_rules.proofs.{Holding.home_made, Holding.present_whole, OneOffer.any-implies, OneOffer.reaches, Overlaps.inside_has, TagSteps.same_tag-is, TagSteps.same_tag-self}
 use Rattle.device_rules.specs.Hosts.{accepted_after, block_after, offers_after}
-use Rattle.device_rules.specs.Tags.{last_offer_after, reference_after, tag_runs, tags_after}
 use Rattle.device_rules.specs.Pictures.{Picture, count_on, extents_at, is_with_a_host, lives, picture_after}
 use Rattle.device_rules.specs.Standing.{IsHome, IsMade, IsTogether, IsUnder, IsUnderTag, Sound, Stands}
-use Rattle.device_rules.proofs.Holding.{home_made, present_whole}
+use Rattle.device_rules.specs.Tags.{last_offer_after, reference_after, tag_runs, tags_after}
 use Rattle.device_rules.proofs.ListSteps.{each-append, each-at, each-back, each-both, each-change, each-front, each-map, each-others, many-any, many-append, many-map, many-none}
-use Rattle.device_rules.proofs.OneOffer.{any-implies, reaches}
-use Rattle.device_rules.proofs.Overlaps.{inside_has}
-use Rattle.device_rules.proofs.TagSteps.{same_tag-is, same_tag-self}
 
 -- what the answer takes: parts of the offer that share no granule, and wholes where the region is shareable
 pub record IsAnswer (c : Configuration) (p : Picture) (h : HostId) (offer : List Extent) (later : List (List Extent)) (all : List Extent) : Type 0 where

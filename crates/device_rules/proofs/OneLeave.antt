@@ -1,27 +1,18 @@
 -- An extent that leaves its host leaves what stands standing, but for the number of extents.
 use Rattle.std.proofs.Common.{◌≡◌, ℕ, ◌%◌, ◌<◌, ◌≤◌, Bool, true, false, ◌&&◌, ◌==◌, List, [], ◌∷◌, ◌++◌, length, map, refl, ap, sym, subst, ◌∙◌, inl, inr, arith}
+use Rattle.std.{proofs.lemmas.Bool.cases_Bool, proofs.lemmas.Bool.eq-eqb, proofs.lemmas.Bool.eqb-true, specs.List.AllByRecursion}
 use Rattle.std.specs.Prelude.{count_by, flat_map, if◌then◌else◌}
-use Rattle.std.specs.List.{AllByRecursion}
-use Rattle.std.proofs.lemmas.Bool.{cases_Bool, eq-eqb, eqb-true}
-use Rattle.cci_codec.specs.dcd_base.specs.declared.capacity.Extent.{Extent}
-use Rattle.cci_codec.specs.dcd_base.specs.declared.capacity.Tag.{Tag}
-use Rattle.cci_codec.specs.dcd_base.specs.declared.ids.HostId.{HostId}
-use Rattle.cci_codec.specs.dcd_base.specs.declared.media.Run.{Run}
-use Rattle.cci_codec.specs.dcd_base.specs.Limits.{extents_supported}
-use Rattle.cci_codec.specs.dcd_base.specs.Words.{has_granule, has_in_runs, has_tag}
-use Rattle.extent_list.specs.media_map.specs.region_config.specs.Configurations.{Configuration}
-use Rattle.extent_list.specs.media_map.specs.region_config.specs.Soundness.{IsSound}
-use Rattle.extent_list.specs.media_map.specs.region_config.specs.Granules.{granule_size, is_supported, region_of, region_spec}
-use Rattle.extent_list.specs.media_map.specs.Places.{bytes_of_run, region_at, run_of, start_of}
+use Rattle.cci_codec.specs.dcd_base.specs.{Limits.extents_supported, Words.has_granule, Words.has_in_runs, Words.has_tag, declared.capacity.Extent.Extent, declared.capacity.Tag.Tag}
+use Rattle.cci_codec.specs.dcd_base.specs.declared.{ids.HostId.HostId, media.Run.Run}
 use Rattle.extent_list.specs.ExtentLists.{cut, is_in, lies_in}
+use Rattle.extent_list.specs.media_map.specs.{Places.bytes_of_run, Places.region_at, Places.run_of, Places.start_of, region_config.specs.Configurations.Configuration}
+use Rattle.extent_list.specs.media_map.specs.region_config.specs.{Granules.granule_size, Granules.is_supported, Granules.region_of, Granules.region_spec, Soundness.IsSound}
 use Rattle.journal_core.specs.declared.outcome.Effect.{Effect}
-use Rattle.device_rules.specs.Tags.{tag_runs}
-use Rattle.device_rules.specs.Pictures.{Picture, count_on, extents_at, picture_after}
-use Rattle.device_rules.specs.Standing.{IsHome, IsMade, IsOpen, IsTogether, IsUnder, Stands}
 use Rattle.device_rules.proofs.CutSteps.{IsPiece, cut_each, cut_fewer, cut_gone, cut_stays, lies, lies-from}
 use Rattle.device_rules.proofs.Homes.{made_bytes, made_region, made_starts, supported_whole}
 use Rattle.device_rules.proofs.ListSteps.{any-map, each-append, each-back, each-both, each-change, each-front, many-append}
-use Rattle.device_rules.proofs.OneOffer.{reaches}
+use Rattle.device_rules.{proofs.OneOffer.reaches, specs.Pictures.Picture, specs.Pictures.count_on, specs.Pictures.extents_at, specs.Pictures.picture_after}
+use Rattle.device_rules.specs.{Standing.IsHome, Standing.IsMade, Standing.IsOpen, Standing.IsTogether, Standing.IsUnder, Standing.Stands, Tags.tag_runs}
 
 -- what stands, but for the number of extents, which a command tries at its end
 pub record Loose (c : Configuration) (p : Picture) : Type 0 where

@@ -1,31 +1,16 @@
 -- One more offer leaves what stands standing, of free granules or of those of an open tag.
 use Rattle.std.proofs.Common.{◌≡◌, ◌⊎◌, ℕ, suc, ◌+◌, ◌%◌, ◌<◌, ◌≤◌, Bool, true, false, not, ◌&&◌, ◌||◌, ◌==◌, List, [], ◌∷◌, ◌++◌, length, map, Some, refl, ap, sym, subst, ◌∙◌, inl, inr, arith, append_assoc, length-append}
-use Rattle.std.specs.Prelude.{flat_map, if◌then◌else◌}
-use Rattle.std.specs.List.{AllByRecursion, list_any}
+use Rattle.std.{specs.Prelude.flat_map, specs.Prelude.if◌then◌else◌, specs.List.AllByRecursion, specs.List.list_any, proofs.lemmas.List.Folds.list_any-append, proofs.lemmas.List.Sums.length-filter}
 use Rattle.std.proofs.lemmas.Bool.{and_from, and_parts, cases_Bool, eqb-true, eq-eqb, false≢true, or_left, or_right, or_from}
-use Rattle.std.proofs.lemmas.List.Folds.{list_any-append}
-use Rattle.std.proofs.lemmas.List.Sums.{length-filter}
-use Rattle.cci_codec.specs.dcd_base.specs.declared.capacity.Extent.{Extent}
-use Rattle.cci_codec.specs.dcd_base.specs.declared.capacity.Tag.{Tag}
-use Rattle.cci_codec.specs.dcd_base.specs.declared.ids.HostId.{HostId}
-use Rattle.cci_codec.specs.dcd_base.specs.declared.media.Run.{Run}
-use Rattle.cci_codec.specs.dcd_base.specs.Limits.{extents_supported}
-use Rattle.cci_codec.specs.dcd_base.specs.Words.{has_granule, has_in_runs, has_tag, is_zero_tag, same_tag}
-use Rattle.extent_list.specs.media_map.specs.region_config.specs.Configurations.{Configuration}
-use Rattle.extent_list.specs.media_map.specs.region_config.specs.Soundness.{IsSound}
-use Rattle.extent_list.specs.media_map.specs.region_config.specs.Granules.{granule_size, hosts_of, region_of, region_spec}
-use Rattle.extent_list.specs.media_map.specs.Places.{region_at, run_of}
-use Rattle.extent_list.specs.ExtentLists.{has_extent_of}
+use Rattle.cci_codec.specs.dcd_base.specs.{Limits.extents_supported, Words.has_granule, Words.has_in_runs, Words.has_tag, Words.is_zero_tag, Words.same_tag, declared.capacity.Extent.Extent}
+use Rattle.cci_codec.specs.dcd_base.specs.declared.{capacity.Tag.Tag, ids.HostId.HostId, media.Run.Run}
+use Rattle.extent_list.{proofs.EachTag.or_false, specs.ExtentLists.has_extent_of, specs.media_map.specs.Places.region_at, specs.media_map.specs.Places.run_of}
+use Rattle.extent_list.specs.media_map.specs.region_config.specs.{Configurations.Configuration, Granules.granule_size, Granules.hosts_of, Granules.region_of, Granules.region_spec, Soundness.IsSound}
 use Rattle.journal_core.specs.declared.outcome.Effect.{Effect}
-use Rattle.device_rules.specs.Tags.{region_of_offer, tag_runs}
+use Rattle.device_rules.proofs.{Holding.present_whole, Homes.made_of_region, Homes.made_region, Settling.extent_lives, TagSteps.same_tag-is, TagSteps.same_tag-self}
 use Rattle.device_rules.specs.Pictures.{Picture, count_on, extents_at, is_with_a_host, lives, picture_after}
-use Rattle.device_rules.specs.Standing.{IsHome, IsMade, IsOpen, IsTogether, IsUnder, Sound, Stands}
-use Rattle.device_rules.proofs.Holding.{present_whole}
-use Rattle.device_rules.proofs.Homes.{made_of_region, made_region}
+use Rattle.device_rules.specs.{Standing.IsHome, Standing.IsMade, Standing.IsOpen, Standing.IsTogether, Standing.IsUnder, Standing.Sound, Standing.Stands, Tags.region_of_offer, Tags.tag_runs}
 use Rattle.device_rules.proofs.ListSteps.{any-map, each-append, each-at, each-both, each-change, flat-push, many, many-append, many-none}
-use Rattle.device_rules.proofs.Settling.{extent_lives}
-use Rattle.device_rules.proofs.TagSteps.{same_tag-is, same_tag-self}
-use Rattle.extent_list.proofs.EachTag.{or_false}
 
 -- whether an extent of the list has the granule
 abbrev pub reaches : Configuration → HostId → List Extent → ℕ → Bool

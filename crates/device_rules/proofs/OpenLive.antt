@@ -1,29 +1,17 @@
 -- A tag that lives, and whose last offer lies in a shareable region, is open.
 use Rattle.std.proofs.Common.{◌≡◌, ℕ, ◌+◌, Bool, true, false, not, ◌&&◌, ◌||◌, ◌==◌, List, [], ◌∷◌, ◌++◌, map, Some, refl, ap, sym, subst, ◌∙◌, inl, inr, ltb}
-use Rattle.std.specs.Prelude.{if◌then◌else◌}
-use Rattle.std.specs.List.{AllByRecursion, list_any}
-use Rattle.std.proofs.lemmas.Bool.{and_from, and_parts, cases_Bool, false≢true, false_from_ne_true, or_from, or_left, or_right}
-use Rattle.std.proofs.lemmas.List.Folds.{list_any-append}
-use Rattle.cci_codec.specs.dcd_base.specs.declared.capacity.Extent.{Extent}
-use Rattle.cci_codec.specs.dcd_base.specs.declared.capacity.Tag.{Tag}
-use Rattle.cci_codec.specs.dcd_base.specs.declared.ids.HostId.{HostId}
+use Rattle.std.proofs.lemmas.{Bool.and_from, Bool.and_parts, Bool.cases_Bool, Bool.false≢true, Bool.false_from_ne_true, Bool.or_from, Bool.or_left, Bool.or_right, List.Folds.list_any-append}
+use Rattle.std.specs.{List.AllByRecursion, List.list_any, Prelude.if◌then◌else◌}
+use Rattle.cci_codec.specs.dcd_base.specs.{Words.has_tag, Words.is_zero_tag, Words.same_tag, declared.capacity.Extent.Extent, declared.capacity.Tag.Tag, declared.ids.HostId.HostId}
 use Rattle.cci_codec.specs.dcd_base.specs.declared.media.Run.{Run}
-use Rattle.cci_codec.specs.dcd_base.specs.Words.{has_tag, is_zero_tag, same_tag}
 use Rattle.extent_list.specs.ExtentLists.{cut, has_extent_of, has_range, is_in, lies_in, marked, owner_of, piece, without}
-use Rattle.extent_list.specs.media_map.specs.region_config.specs.Configurations.{Configuration}
+use Rattle.extent_list.specs.media_map.specs.{Places.bytes_of_run, Places.region_at, Places.run_of, Places.start_of, region_config.specs.Configurations.Configuration}
 use Rattle.extent_list.specs.media_map.specs.region_config.specs.Granules.{hosts_of, region_spec}
-use Rattle.extent_list.specs.media_map.specs.Places.{bytes_of_run, region_at, run_of, start_of}
 use Rattle.journal_core.specs.declared.outcome.Effect.{Effect}
-use Rattle.device_rules.specs.Outcomes.{Outcome, effects_of, ended}
-use Rattle.device_rules.specs.ReleaseOutcomes.{removals, soils}
+use Rattle.device_rules.proofs.{AllLeave.soils_quiet, OneOffer.any-implies, Pictures.picture-append, Pictures.picture-outcome, Quiet.quiet_front, Settling.ended_parts}
+use Rattle.device_rules.{proofs.TagSteps.open_still, proofs.TagSteps.same_tag-is, proofs.TagSteps.same_tag-self, specs.Outcomes.Outcome, specs.Outcomes.effects_of, specs.Outcomes.ended}
+use Rattle.device_rules.specs.{Pictures.Picture, Pictures.is_with_a_host, Pictures.lives, Pictures.picture_after, Pictures.picture_of, ReleaseOutcomes.removals, ReleaseOutcomes.soils}
 use Rattle.device_rules.specs.Tags.{is_in_shareable, tag_region}
-use Rattle.device_rules.specs.Pictures.{Picture, is_with_a_host, lives, picture_after, picture_of}
-use Rattle.device_rules.proofs.OneOffer.{any-implies}
-use Rattle.device_rules.proofs.Pictures.{picture-append, picture-outcome}
-use Rattle.device_rules.proofs.Quiet.{quiet_front}
-use Rattle.device_rules.proofs.Settling.{ended_parts}
-use Rattle.device_rules.proofs.TagSteps.{open_still, same_tag-is, same_tag-self}
-use Rattle.device_rules.proofs.AllLeave.{soils_quiet}
 
 abbrev pub IsOpened : Configuration → Picture → Type 0
 IsOpened c p = (t : Tag) → lives c p t ≡ true → is_in_shareable c (tag_region c (p.last t)) ≡ true → has_tag p.tags t ≡ true

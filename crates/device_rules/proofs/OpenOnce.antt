@@ -1,17 +1,11 @@
 -- No tag is open twice.
 use Rattle.std.proofs.Common.{◌≡◌, ℕ, zero, suc, ◌<◌, Bool, true, false, not, ◌&&◌, List, [], ◌∷◌, ◌++◌, length, get_or, refl, ◌∙◌, arith}
+use Rattle.std.proofs.lemmas.{Bool.or_parts, List.Kept.AllPairs-filter, List.Quantifiers.all_pairs_push}
 use Rattle.std.specs.Prelude.{AllPairs, IsFalse, fold, if◌then◌else◌}
-use Rattle.std.proofs.lemmas.Bool.{or_parts}
-use Rattle.std.proofs.lemmas.List.Kept.{AllPairs-filter}
-use Rattle.std.proofs.lemmas.List.Quantifiers.{all_pairs_push}
-use Rattle.cci_codec.specs.dcd_base.specs.declared.capacity.Tag.{Tag}
-use Rattle.cci_codec.specs.dcd_base.specs.Words.{has_tag, same_tag}
-use Rattle.extent_list.specs.media_map.specs.region_config.specs.Configurations.{Configuration}
-use Rattle.extent_list.specs.media_map.specs.region_config.specs.Granules.{region_spec}
-use Rattle.extent_list.specs.media_map.specs.Places.{region_at}
+use Rattle.cci_codec.specs.dcd_base.specs.{declared.capacity.Tag.Tag, Words.has_tag, Words.same_tag}
+use Rattle.extent_list.specs.media_map.specs.{region_config.specs.Configurations.Configuration, region_config.specs.Granules.region_spec, Places.region_at}
 use Rattle.journal_core.specs.declared.outcome.Effect.{Effect}
-use Rattle.device_rules.specs.Tags.{open_tags, tags_after}
-use Rattle.device_rules.proofs.TagSteps.{same_tag-back}
+use Rattle.device_rules.{specs.Tags.open_tags, specs.Tags.tags_after, proofs.TagSteps.same_tag-back}
 
 abbrev Differ : Tag → Tag → Type 0
 Differ t u = IsFalse (same_tag t u)

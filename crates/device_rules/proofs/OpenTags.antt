@@ -1,52 +1,27 @@
 -- After every legal journal the open tags are those that live where their granules are shareable.
 use Rattle.std.proofs.Common.{◌≡◌, ℕ, ◌<◌, true, false, not, ◌==◌, List, [], ◌∷◌, ◌++◌, length, Some, None, refl, ap, sym, subst, ◌∙◌, arith, append_assoc, append-nil}
-use Rattle.std.specs.Prelude.{Option, IsTrue}
-use Rattle.std.specs.List.{AllByRecursion, list_all, enumerate_from}
-use Rattle.std.specs.declared.result.Result.{Result}
-use Rattle.std.specs.declared.result.Result.TheVariants.{Ok, Err}
 use Rattle.std.proofs.lemmas.Bool.{and_from, and_parts, false≢true, ltb-true, not-false}
-use Rattle.cci_codec.specs.dcd_base.specs.declared.capacity.Extent.{Extent}
-use Rattle.cci_codec.specs.dcd_base.specs.declared.capacity.Tag.{Tag}
-use Rattle.cci_codec.specs.dcd_base.specs.declared.ids.HostId.{HostId}
-use Rattle.cci_codec.specs.dcd_base.specs.declared.steps.Actor.{Actor}
+use Rattle.std.specs.{List.AllByRecursion, List.list_all, List.enumerate_from, Prelude.Option, Prelude.IsTrue, declared.result.Result.Result}
+use Rattle.std.specs.declared.result.Result.TheVariants.{Ok, Err}
+use Rattle.cci_codec.specs.dcd_base.specs.{Words.has_tag, declared.capacity.Extent.Extent, declared.capacity.Tag.Tag}
+use Rattle.cci_codec.specs.dcd_base.specs.declared.{faults.PayloadFault.PayloadFault as ManagerFault, faults.PayloadFault.PayloadFault as HostFault, ids.HostId.HostId, steps.Actor.Actor}
 use Rattle.cci_codec.specs.dcd_base.specs.declared.steps.LogId.{LogId}
-use Rattle.cci_codec.specs.dcd_base.specs.Words.{has_tag}
-use Rattle.extent_list.specs.dcd_codes.specs.declared.rules.Rule.{Rule}
-use Rattle.cci_codec.specs.dcd_base.specs.declared.faults.PayloadFault.{PayloadFault as ManagerFault, PayloadFault as HostFault}
-use Rattle.fm_payloads.specs.declared.requests.FmRequest.{FmRequest}
-use Rattle.fm_payloads.specs.ManagerPayloads.{manager_request}
-use Rattle.host_payloads.specs.declared.requests.HostRequest.{HostRequest}
-use Rattle.host_payloads.specs.HostPayloads.{host_request}
-use Rattle.extent_list.specs.media_map.specs.Places.{region_at}
-use Rattle.extent_list.specs.media_map.specs.region_config.specs.Configurations.{Configuration}
-use Rattle.extent_list.specs.media_map.specs.region_config.specs.Granules.{region_spec}
-use Rattle.extent_list.specs.media_map.specs.region_config.specs.Soundness.{IsSound}
-use Rattle.journal_core.specs.declared.acts.Act.{Act}
-use Rattle.journal_core.specs.declared.entries.Entry.{Entry}
-use Rattle.journal_core.specs.declared.outcome.Effect.{Effect}
-use Rattle.journal_core.specs.declared.outcome.HeldKind.{HeldKind}
-use Rattle.journal_core.specs.Entries.{EachFrom, effects, fits}
-use Rattle.journal_core.proofs.JournalSteps.{effects-push}
-use Rattle.device_rules.specs.Adding.{add_outcome, chosen, is_free_now, offered, present}
-use Rattle.device_rules.specs.Answers.{dropped, effects_with, host_outcome, host_result, host_rule, manager_outcome, manager_result, manager_rule, scrubbed, unless, zeroes}
-use Rattle.device_rules.specs.Legal.{Legal, Meets, right_answer}
-use Rattle.device_rules.specs.Logs.{log_of}
-use Rattle.device_rules.specs.Outcomes.{Outcome, effects_of}
+use Rattle.extent_list.specs.{dcd_codes.specs.declared.rules.Rule.Rule, media_map.specs.Places.region_at, media_map.specs.region_config.specs.Configurations.Configuration}
+use Rattle.extent_list.specs.media_map.specs.region_config.specs.{Granules.region_spec, Soundness.IsSound}
+use Rattle.fm_payloads.specs.{declared.requests.FmRequest.FmRequest, ManagerPayloads.manager_request}
+use Rattle.host_payloads.specs.{declared.requests.HostRequest.HostRequest, HostPayloads.host_request}
+use Rattle.journal_core.{proofs.JournalSteps.effects-push, specs.Entries.EachFrom, specs.Entries.effects, specs.Entries.fits, specs.declared.acts.Act.Act, specs.declared.entries.Entry.Entry}
+use Rattle.journal_core.specs.declared.outcome.{Effect.Effect, HeldKind.HeldKind}
+use Rattle.device_rules.proofs.{Holding.first_is_sound, Holding.present_whole, Homes.made_region, LeavingSteps.both_ways, LegalSound.clear_quiet, LegalSound.dropped_quiet, LegalSound.entry_keeps}
+use Rattle.device_rules.proofs.{OpenLive.IsOpened, OpenLive.outcome_opened, Overlaps.not_broken, Quiet.hold_quiet, Quiet.is_quiet, Quiet.zeroes_quiet}
+use Rattle.device_rules.specs.{Adding.add_outcome, Adding.chosen, Adding.is_free_now, Adding.offered, Adding.present, Legal.Legal, Legal.Meets, Legal.right_answer, Logs.log_of}
+use Rattle.device_rules.specs.{Outcomes.Outcome, Outcomes.effects_of, Pictures.Picture, Pictures.lives, Pictures.picture_of}
 use Rattle.device_rules.specs.ReleaseOutcomes.{give_back_outcome, is_cleaning, is_forced, remove_outcome, removed}
-use Rattle.device_rules.specs.ResponseOutcomes.{respond_outcome}
+use Rattle.device_rules.specs.{ResponseOutcomes.respond_outcome, Standing.IsMade, Standing.IsOpen, Standing.Sound, Standing.Stands}
 use Rattle.device_rules.specs.TagCommands.{add_reference_outcome, remove_reference_outcome}
-use Rattle.device_rules.specs.Tags.{is_in_shareable, is_live_shareable, is_referenced, last_offer, open_tags, tag_region, tag_runs}
-use Rattle.device_rules.specs.Views.{View, view_of}
-use Rattle.device_rules.specs.Pictures.{Picture, lives, picture_of}
-use Rattle.device_rules.specs.Standing.{IsMade, IsOpen, Sound, Stands}
-use Rattle.device_rules.proofs.Holding.{first_is_sound, present_whole}
-use Rattle.device_rules.proofs.Homes.{made_region}
-use Rattle.device_rules.proofs.LegalSound.{clear_quiet, dropped_quiet, entry_keeps}
-use Rattle.device_rules.proofs.OpenLive.{IsOpened, outcome_opened}
+use Rattle.device_rules.specs.{Tags.is_in_shareable, Tags.is_live_shareable, Tags.is_referenced, Tags.last_offer, Tags.open_tags, Tags.tag_region, Tags.tag_runs, Views.View, Views.view_of}
+use Rattle.device_rules.specs.Answers.{dropped, effects_with, host_outcome, host_result, host_rule, manager_outcome, manager_result, manager_rule, scrubbed, unless, zeroes}
 use Rattle.device_rules.proofs.OpenedJournals.{added_opened, dropped_opened, each_tagged, given_opened, quiet_opened, quiet_outcome_opened, reference_opened, removed_opened, responded_opened}
-use Rattle.device_rules.proofs.Overlaps.{not_broken}
-use Rattle.device_rules.proofs.Quiet.{hold_quiet, is_quiet, zeroes_quiet}
-use Rattle.device_rules.proofs.LeavingSteps.{both_ways}
 
 module _ (c : Configuration) (sound : IsSound c) (journal : List Entry) (before : Sound c (picture_of c (effects journal))) (opened : IsOpened c (picture_of c (effects journal))) where
   abbrev past : List Effect

@@ -1,36 +1,18 @@
 -- In every legal journal a tag is open just where it lives and its last offer lies in a shareable region.
 use Rattle.std.proofs.Common.{◌≡◌, ℕ, ◌<◌, Bool, true, false, ◌||◌, ◌==◌, List, [], ◌∷◌, ◌++◌, length, map, None, refl, ap, sym, subst, ◌∙◌, inl, inr}
-use Rattle.std.specs.Prelude.{drop, if◌then◌else◌}
-use Rattle.std.specs.List.{AllByRecursion, list_all, list_any}
-use Rattle.std.proofs.lemmas.Bool.{cases_Bool, eqb-true, false≢true, or_left, or_right}
-use Rattle.std.proofs.lemmas.List.Folds.{list_any-append}
-use Rattle.cci_codec.specs.dcd_base.specs.declared.capacity.Extent.{Extent}
-use Rattle.cci_codec.specs.dcd_base.specs.declared.capacity.Tag.{Tag}
-use Rattle.cci_codec.specs.dcd_base.specs.declared.ids.HostId.{HostId}
-use Rattle.cci_codec.specs.dcd_base.specs.Words.{has_tag, same_tag}
-use Rattle.extent_list.specs.ExtentLists.{has_extent_of, marked}
-use Rattle.extent_list.specs.Listing.{too_many_listed}
-use Rattle.extent_list.specs.media_map.specs.Places.{run_of}
+use Rattle.std.proofs.lemmas.{Bool.cases_Bool, Bool.eqb-true, Bool.false≢true, Bool.or_left, Bool.or_right, List.Folds.list_any-append}
+use Rattle.std.specs.{List.AllByRecursion, List.list_all, List.list_any, Prelude.drop, Prelude.if◌then◌else◌}
+use Rattle.cci_codec.specs.dcd_base.specs.{declared.capacity.Extent.Extent, declared.capacity.Tag.Tag, declared.ids.HostId.HostId, Words.has_tag, Words.same_tag}
+use Rattle.extent_list.specs.{ExtentLists.has_extent_of, ExtentLists.marked, Listing.too_many_listed, media_map.specs.Places.run_of, media_map.specs.region_config.specs.Configurations.Configuration}
+use Rattle.extent_list.specs.media_map.specs.region_config.specs.{Granules.with_blocks, Soundness.IsSound}
 use Rattle.offer_core.specs.Responses.{response_list_rule, respond_rule}
-use Rattle.extent_list.specs.media_map.specs.region_config.specs.Configurations.{Configuration}
-use Rattle.extent_list.specs.media_map.specs.region_config.specs.Granules.{with_blocks}
-use Rattle.extent_list.specs.media_map.specs.region_config.specs.Soundness.{IsSound}
-use Rattle.journal_core.specs.declared.outcome.Effect.{Effect}
-use Rattle.journal_core.specs.declared.outcome.HeldKind.{HeldKind}
-use Rattle.device_rules.specs.Outcomes.{Outcome, effects_of}
-use Rattle.device_rules.specs.ReleaseOutcomes.{leaves, removals}
-use Rattle.device_rules.specs.ResponseOutcomes.{respond_changes, unhold}
-use Rattle.device_rules.specs.Pictures.{Picture, picture_after, picture_of}
-use Rattle.device_rules.specs.Standing.{Sound}
-use Rattle.device_rules.proofs.ListSteps.{each-change}
-use Rattle.device_rules.proofs.OneAnswer.{IsAnswer, answer_picture, q}
+use Rattle.journal_core.specs.declared.outcome.{Effect.Effect, HeldKind.HeldKind}
+use Rattle.device_rules.proofs.{GivingBack.leaves_are, ListSteps.each-change, OneAnswer.IsAnswer, OneAnswer.answer_picture, OneAnswer.q}
 use Rattle.device_rules.proofs.OpenLive.{IsOpened, fewer_opened, has_marked, keeps, lives_less, offer_opened, outcome_opened, removals_opened}
+use Rattle.device_rules.proofs.{Pictures.picture-append, Quiet.is_quiet, Quiet.quiet_front, Quiet.quiet_picture, Quiet.unhold_quiet, Responding.answer_of, TagSteps.same_tag-is}
+use Rattle.device_rules.specs.{Outcomes.Outcome, Outcomes.effects_of, Pictures.Picture, Pictures.picture_after, Pictures.picture_of, ReleaseOutcomes.leaves, ReleaseOutcomes.removals}
+use Rattle.device_rules.specs.{ResponseOutcomes.respond_changes, ResponseOutcomes.unhold, Standing.Sound}
 use Rattle.selection.proofs.Prescribed.{neither}
-use Rattle.device_rules.proofs.Pictures.{picture-append}
-use Rattle.device_rules.proofs.Quiet.{is_quiet, quiet_front, quiet_picture, unhold_quiet}
-use Rattle.device_rules.proofs.Responding.{answer_of}
-use Rattle.device_rules.proofs.TagSteps.{same_tag-is}
-use Rattle.device_rules.proofs.GivingBack.{leaves_are}
 
 -- ---- a command
 

@@ -1,39 +1,20 @@
 -- After every legal journal the open tags are the live ones, each once, in the order in which they became live.
 use Rattle.std.proofs.Common.{◌≡◌, Bool, true, false, List, [], ◌∷◌, ◌++◌, map, refl, sym, subst, arith}
-use Rattle.std.specs.Prelude.{flat_map, if◌then◌else◌}
-use Rattle.std.specs.List.{list_all}
-use Rattle.cci_codec.specs.dcd_base.specs.declared.capacity.Extent.{Extent}
-use Rattle.cci_codec.specs.dcd_base.specs.declared.capacity.Tag.{Tag}
-use Rattle.cci_codec.specs.dcd_base.specs.declared.ids.HostId.{HostId}
-use Rattle.cci_codec.specs.dcd_base.specs.declared.steps.LogId.{LogId}
+use Rattle.std.specs.{Prelude.flat_map, Prelude.if◌then◌else◌, List.list_all}
+use Rattle.cci_codec.specs.dcd_base.specs.declared.{capacity.Extent.Extent, capacity.Tag.Tag, ids.HostId.HostId, steps.LogId.LogId}
 use Rattle.event_records.specs.declared.events.Event.{Event}
 use Rattle.fm_payloads.specs.declared.requests.FmRequest.{FmRequest}
 use Rattle.host_payloads.specs.declared.requests.HostRequest.{HostRequest}
-use Rattle.extent_list.specs.media_map.specs.Places.{run_of}
-use Rattle.extent_list.specs.media_map.specs.region_config.specs.Configurations.{Configuration}
-use Rattle.extent_list.specs.media_map.specs.region_config.specs.Soundness.{IsSound}
-use Rattle.journal_core.specs.declared.entries.Entry.{Entry}
-use Rattle.journal_core.specs.declared.outcome.Effect.{Effect}
+use Rattle.extent_list.specs.media_map.specs.{Places.run_of, region_config.specs.Configurations.Configuration, region_config.specs.Soundness.IsSound}
+use Rattle.journal_core.{proofs.EachSteps.Each-push, proofs.JournalSteps.effects-push, specs.Entries.effects, specs.declared.entries.Entry.Entry, specs.declared.outcome.Effect.Effect}
 use Rattle.journal_core.specs.declared.outcome.HeldKind.{HeldKind}
-use Rattle.journal_core.specs.Entries.{effects}
-use Rattle.journal_core.proofs.EachSteps.{Each-push}
-use Rattle.journal_core.proofs.JournalSteps.{effects-push}
-use Rattle.device_rules.specs.Answers.{host_outcome, manager_outcome, scrubbed, zeroes}
-use Rattle.device_rules.specs.Invariants.{TagsLive}
-use Rattle.device_rules.specs.Legal.{Legal, Meets}
-use Rattle.device_rules.specs.Logs.{log_of}
-use Rattle.device_rules.specs.Outcomes.{Outcome, effects_of, ended, entered_all}
-use Rattle.device_rules.specs.ReleaseOutcomes.{is_cleaning, is_forced, removed}
-use Rattle.device_rules.specs.ResponseOutcomes.{answered, respond_outcome, unhold}
-use Rattle.device_rules.specs.Tags.{is_referenced}
-use Rattle.device_rules.specs.Views.{View, view_of}
-use Rattle.device_rules.proofs.OpenOnce.{open_once}
-use Rattle.device_rules.proofs.EffectKinds.{any_log, clear_passes, give_back_passes, hold_passes, outcome_passes, reference_passes, removals_pass, respond_passes, tells_any, told_passes, unhold_passes, zeroes_pass}
-use Rattle.device_rules.proofs.Leaving.{both_pass, leaves_tags, map_passes}
-use Rattle.device_rules.proofs.LegalSteps.{Cases, by_steps, step_case}
-use Rattle.device_rules.proofs.EndSteps.{live_is_open}
-use Rattle.device_rules.proofs.Fading.{fades, is_single, single_fading}
+use Rattle.device_rules.proofs.{EndSteps.live_is_open, Fading.fades, Fading.is_single, Fading.single_fading, Leaving.both_pass, Leaving.leaves_tags, Leaving.map_passes}
+use Rattle.device_rules.proofs.{LegalSteps.Cases, LegalSteps.by_steps, LegalSteps.step_case, OpenOnce.open_once}
 use Rattle.device_rules.proofs.TagOrder.{InOrder, OpenLive, no_offer, order_kept, order_offered}
+use Rattle.device_rules.specs.{Answers.host_outcome, Answers.manager_outcome, Answers.scrubbed, Answers.zeroes, Invariants.TagsLive, Legal.Legal, Legal.Meets, Logs.log_of}
+use Rattle.device_rules.specs.{Outcomes.Outcome, Outcomes.effects_of, Outcomes.ended, Outcomes.entered_all, ReleaseOutcomes.is_cleaning, ReleaseOutcomes.is_forced, ReleaseOutcomes.removed}
+use Rattle.device_rules.specs.{ResponseOutcomes.answered, ResponseOutcomes.respond_outcome, ResponseOutcomes.unhold, Tags.is_referenced, Views.View, Views.view_of}
+use Rattle.device_rules.proofs.EffectKinds.{any_log, clear_passes, give_back_passes, hold_passes, outcome_passes, reference_passes, removals_pass, respond_passes, tells_any, told_passes, unhold_passes, zeroes_pass}
 
 -- the effects keep the order, where the open tags are the live ones then
 abbrev Keeps : Configuration → List Effect → List Effect → Type 0

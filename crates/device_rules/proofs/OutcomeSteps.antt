@@ -1,15 +1,12 @@
 -- What goes over the effects of a command goes over its changes alone, where ends of tags and records leave it.
 use Rattle.std.proofs.Common.{◌≡◌, Bool, true, false, List, [], ◌∷◌, ◌++◌, refl, ap, ◌∙◌}
-use Rattle.std.specs.Prelude.{fold, map, flat_map, if◌then◌else◌}
-use Rattle.std.proofs.lemmas.List.Sums.{fold-append}
+use Rattle.std.{specs.Prelude.fold, specs.Prelude.map, specs.Prelude.flat_map, specs.Prelude.if◌then◌else◌, proofs.lemmas.List.Sums.fold-append}
 use Rattle.extent_list.specs.media_map.specs.region_config.specs.Configurations.{Configuration}
-use Rattle.cci_codec.specs.dcd_base.specs.declared.steps.LogId.{LogId}
+use Rattle.cci_codec.specs.dcd_base.specs.declared.{steps.LogId.LogId, capacity.Tag.Tag}
 use Rattle.event_records.specs.declared.events.Event.{Event}
-use Rattle.cci_codec.specs.dcd_base.specs.declared.capacity.Tag.{Tag}
 use Rattle.journal_core.specs.declared.outcome.Effect.{Effect}
 use Rattle.event_log.specs.Logs.{Log}
-use Rattle.device_rules.specs.Logs.{log_of, log_after}
-use Rattle.device_rules.specs.Outcomes.{Outcome, effects_of, entered, entered_all, ended}
+use Rattle.device_rules.specs.{Logs.log_of, Logs.log_after, Outcomes.Outcome, Outcomes.effects_of, Outcomes.entered, Outcomes.entered_all, Outcomes.ended}
 
 module _ {B : Type 0} (f : B → Effect → B)
     (no_end : (b : B) (t : Tag) → f b (Effect.TagEnd t) ≡ b)

@@ -1,30 +1,14 @@
 -- Extents that share a granule share an address, and what lies in an extent has granules of it alone.
 use Rattle.std.proofs.Common.{◌≡◌, ℕ, ◌+◌, ◌-◌, ◌*◌, ◌/◌, ◌%◌, ◌<◌, ◌≤◌, Bool, true, false, List, [], ◌∷◌, ◌++◌, length, None, refl, sym, subst, ◌∙◌, inl, inr, arith, leb, ltb, append_assoc, mul-le-mul_right, add-mul, zero-mul}
-use Rattle.std.specs.Prelude.{Option, position}
-use Rattle.std.specs.List.{AllByRecursion, list_any, position_from}
+use Rattle.std.proofs.lemmas.{Iterator.Adapters.position_from-zero, List.Folds.list_any-append, Option.none-some}
+use Rattle.std.specs.{List.AllByRecursion, List.list_any, List.position_from, Prelude.Option, Prelude.position}
 use Rattle.std.proofs.lemmas.Bool.{and_from, and_parts, cases_Bool, cases_lt, false≢true, false_from_ne_true, le-leb, leb-true, lt-ltb, ltb-true, or_from, or_parts}
-use Rattle.std.proofs.lemmas.Iterator.Adapters.{position_from-zero}
-use Rattle.std.proofs.lemmas.List.Folds.{list_any-append}
-use Rattle.std.proofs.lemmas.Option.{none-some}
-use Rattle.cci_codec.specs.dcd_base.specs.declared.capacity.Extent.{Extent}
-use Rattle.cci_codec.specs.dcd_base.specs.declared.ids.HostId.{HostId}
-use Rattle.cci_codec.specs.dcd_base.specs.Words.{has_granule}
-use Rattle.extent_list.specs.dcd_codes.specs.declared.rules.Rule.{Rule}
-use Rattle.extent_list.specs.dcd_codes.specs.Rules.{◌breaks◌, first_by}
-use Rattle.extent_list.specs.ExtentLists.{lies_in, overlaps}
-use Rattle.extent_list.specs.Listing.{overlapping}
-use Rattle.extent_list.specs.media_map.specs.region_config.specs.Configurations.{Configuration}
-use Rattle.extent_list.specs.media_map.specs.region_config.specs.Granules.{base_of, first_granule, granule_size, region_of}
-use Rattle.extent_list.specs.media_map.specs.region_config.specs.Soundness.{IsSound}
-use Rattle.extent_list.specs.media_map.specs.region_config.proofs.Faultless.{granule_from}
-use Rattle.extent_list.specs.media_map.specs.Places.{region_at, run_of}
-use Rattle.extent_list.specs.media_map.proofs.PlaceLemmas.{has}
-use Rattle.extent_list.specs.media_map.proofs.RunLemmas.{region_at_is}
-use Rattle.device_rules.specs.Pictures.{count_on}
-use Rattle.device_rules.specs.Standing.{IsMade}
-use Rattle.device_rules.proofs.Homes.{made_begins, made_long, made_of_region, made_run}
-use Rattle.device_rules.proofs.ListSteps.{many-none}
-use Rattle.device_rules.proofs.OneOffer.{reaches}
+use Rattle.cci_codec.specs.dcd_base.specs.{declared.capacity.Extent.Extent, declared.ids.HostId.HostId, Words.has_granule}
+use Rattle.extent_list.specs.{ExtentLists.lies_in, ExtentLists.overlaps, Listing.overlapping, dcd_codes.specs.Rules.◌breaks◌, dcd_codes.specs.Rules.first_by, dcd_codes.specs.declared.rules.Rule.Rule}
+use Rattle.extent_list.specs.media_map.{proofs.PlaceLemmas.has, proofs.RunLemmas.region_at_is, specs.Places.region_at, specs.Places.run_of, specs.region_config.proofs.Faultless.granule_from}
+use Rattle.extent_list.specs.media_map.specs.region_config.specs.{Configurations.Configuration, Granules.base_of, Granules.first_granule, Granules.granule_size, Granules.region_of, Soundness.IsSound}
+use Rattle.device_rules.proofs.{Homes.made_begins, Homes.made_long, Homes.made_of_region, Homes.made_run, ListSteps.many-none, OneOffer.reaches}
+use Rattle.device_rules.specs.{Pictures.count_on, Standing.IsMade}
 use Rattle.selection.proofs.Prescribed.{neither, option_none}
 
 -- ---- rows

@@ -1,21 +1,14 @@
 -- The picture after more effects, and after a command.
 use Rattle.std.proofs.Common.{◌≡◌, Bool, true, false, List, [], ◌∷◌, ◌++◌, map, refl, ap, ◌∙◌}
-use Rattle.std.specs.Prelude.{flat_map, fold, None, if◌then◌else◌}
-use Rattle.std.proofs.lemmas.List.Sums.{fold-append}
+use Rattle.std.{specs.Prelude.flat_map, specs.Prelude.fold, specs.Prelude.None, specs.Prelude.if◌then◌else◌, proofs.lemmas.List.Sums.fold-append}
 use Rattle.cci_codec.specs.dcd_base.specs.declared.steps.LogId.{LogId}
 use Rattle.event_records.specs.declared.events.Event.{Event}
-use Rattle.extent_list.specs.media_map.specs.region_config.specs.Configurations.{Configuration}
-use Rattle.extent_list.specs.media_map.specs.region_config.specs.Granules.{region_spec}
-use Rattle.journal_core.specs.declared.outcome.Effect.{Effect}
-use Rattle.journal_core.specs.Holders.{holding_after}
+use Rattle.extent_list.specs.media_map.specs.region_config.specs.{Configurations.Configuration, Granules.region_spec}
+use Rattle.journal_core.specs.{declared.outcome.Effect.Effect, Holders.holding_after}
 use Rattle.event_log.specs.Logs.{Log}
-use Rattle.device_rules.specs.Hosts.{accepted_after, block_after, offers_after}
-use Rattle.device_rules.specs.Logs.{log_after, log_of}
-use Rattle.device_rules.specs.Outcomes.{Outcome, effects_of, ended, entered, entered_all}
+use Rattle.device_rules.{proofs.OutcomeSteps.after-outcome, proofs.TagSteps.tags-ends, proofs.TagSteps.without_tags, specs.Hosts.accepted_after, specs.Hosts.block_after, specs.Hosts.offers_after}
+use Rattle.device_rules.specs.{Logs.log_after, Logs.log_of, Outcomes.Outcome, Outcomes.effects_of, Outcomes.ended, Outcomes.entered, Outcomes.entered_all, Pictures.picture_after, Pictures.picture_of}
 use Rattle.device_rules.specs.Tags.{last_offer_after, reference_after, tags_after}
-use Rattle.device_rules.specs.Pictures.{picture_after, picture_of}
-use Rattle.device_rules.proofs.OutcomeSteps.{after-outcome}
-use Rattle.device_rules.proofs.TagSteps.{tags-ends, without_tags}
 
 -- records leave what minds none
 module _ {B : Type 0} (f : B → Effect → B)

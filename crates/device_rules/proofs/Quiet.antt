@@ -1,21 +1,12 @@
 -- Effects that touch no list, no holder, no block and no tag keep the picture: records, held lists, soiling and zeroing.
 use Rattle.std.proofs.Common.{◌≡◌, ℕ, Bool, true, false, List, [], ◌∷◌, ◌++◌, map, refl, sym, subst, ◌∙◌, inl}
-use Rattle.std.specs.List.{list_all}
-use Rattle.std.proofs.lemmas.Bool.{and_parts, false≢true}
-use Rattle.cci_codec.specs.dcd_base.specs.declared.capacity.Extent.{Extent}
-use Rattle.cci_codec.specs.dcd_base.specs.declared.ids.HostId.{HostId}
-use Rattle.extent_list.specs.media_map.specs.region_config.specs.Configurations.{Configuration}
+use Rattle.std.{specs.List.list_all, proofs.lemmas.Bool.and_parts, proofs.lemmas.Bool.false≢true}
+use Rattle.cci_codec.specs.dcd_base.specs.declared.{capacity.Extent.Extent, ids.HostId.HostId}
+use Rattle.extent_list.specs.media_map.specs.region_config.specs.{Configurations.Configuration, Granules.same_region}
 use Rattle.granule_map.specs.Choices.{joined}
-use Rattle.journal_core.specs.declared.outcome.Effect.{Effect}
-use Rattle.journal_core.specs.declared.outcome.HeldKind.{HeldKind}
-use Rattle.device_rules.specs.Answers.{zeroes}
-use Rattle.extent_list.specs.media_map.specs.region_config.specs.Granules.{same_region}
-use Rattle.device_rules.specs.Outcomes.{Outcome, effects_of}
-use Rattle.device_rules.specs.ResponseOutcomes.{hold, unhold}
-use Rattle.device_rules.specs.Pictures.{Picture, picture_after, picture_of}
-use Rattle.device_rules.specs.Standing.{Sound}
-use Rattle.device_rules.proofs.Pictures.{picture-append}
-use Rattle.device_rules.proofs.Settling.{outcome_keeps}
+use Rattle.journal_core.specs.declared.outcome.{Effect.Effect, HeldKind.HeldKind}
+use Rattle.device_rules.{proofs.Pictures.picture-append, proofs.Settling.outcome_keeps, specs.Answers.zeroes, specs.Outcomes.Outcome, specs.Outcomes.effects_of}
+use Rattle.device_rules.specs.{Pictures.Picture, Pictures.picture_after, Pictures.picture_of, ResponseOutcomes.hold, ResponseOutcomes.unhold, Standing.Sound}
 
 abbrev pub is_quiet : Effect → Bool
 is_quiet (Effect.Offer h xs) = false

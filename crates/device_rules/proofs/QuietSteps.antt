@@ -1,32 +1,18 @@
 -- Steps that leave the table as it is.
 use Rattle.std.proofs.Common.{◌≡◌, ℕ, Bool, true, false, List, [], ◌++◌, None, Option, refl, sym, ap, ◌∙◌}
-use Rattle.std.specs.List.{list_all, list_any}
-use Rattle.std.proofs.lemmas.Bool.{false≢true}
-use Rattle.std.proofs.lemmas.List.Sums.{fold-append}
-use Rattle.cci_codec.specs.dcd_base.specs.declared.capacity.Extent.{Extent}
-use Rattle.cci_codec.specs.dcd_base.specs.declared.capacity.Tag.{Tag}
-use Rattle.cci_codec.specs.dcd_base.specs.declared.ids.HostId.{HostId}
-use Rattle.cci_codec.specs.dcd_base.specs.declared.steps.LogId.{LogId}
-use Rattle.extent_list.specs.ExtentLists.{has_extent_of}
+use Rattle.std.{specs.List.list_all, specs.List.list_any, proofs.lemmas.Bool.false≢true, proofs.lemmas.List.Sums.fold-append}
+use Rattle.cci_codec.specs.dcd_base.specs.declared.{capacity.Extent.Extent, capacity.Tag.Tag, ids.HostId.HostId, steps.LogId.LogId}
+use Rattle.extent_list.specs.{ExtentLists.has_extent_of, media_map.specs.region_config.specs.Configurations.Configuration}
 use Rattle.fm_payloads.specs.declared.requests.FmRequest.{FmRequest}
 use Rattle.host_payloads.specs.declared.requests.HostRequest.{HostRequest}
-use Rattle.journal_core.specs.declared.outcome.Effect.{Effect}
-use Rattle.journal_core.specs.declared.outcome.HeldKind.{HeldKind}
-use Rattle.extent_list.specs.media_map.specs.region_config.specs.Configurations.{Configuration}
+use Rattle.journal_core.specs.declared.outcome.{Effect.Effect, HeldKind.HeldKind}
 use Rattle.tag_refs.specs.declared.entries.TagEntry.{TagEntry}
-use Rattle.device_rules.specs.Answers.{dropped, host_outcome, manager_outcome, zeroes}
-use Rattle.device_rules.specs.Hosts.{accepted_after, accepted_of, offers_after, offers_of}
-use Rattle.device_rules.specs.Logs.{log_of}
-use Rattle.device_rules.specs.Outcomes.{Outcome, effects_of}
-use Rattle.device_rules.specs.Tags.{is_referenced, last_offer, last_offer_after, open_tags, reference_after, tag_region, tag_runs, tags_after}
-use Rattle.device_rules.specs.Views.{View}
-use Rattle.device_rules.proofs.ListSteps.{each-change}
 use Rattle.device_rules.proofs.EffectKinds.{PassClearing, PassHeld, clear_passes, dropped_passes, hold_passes, zeroes_pass}
-use Rattle.device_rules.proofs.Leaving.{over-leaving}
-use Rattle.device_rules.specs.QuietRequests.{is_quiet_host, is_quiet_manager, leaves_table}
+use Rattle.device_rules.proofs.{Leaving.over-leaving, ListSteps.each-change, SettledTags.unended, TagEntries.entry-moved}
+use Rattle.device_rules.specs.{Answers.dropped, Answers.host_outcome, Answers.manager_outcome, Answers.zeroes, Hosts.accepted_after, Hosts.accepted_of, Hosts.offers_after, Hosts.offers_of}
+use Rattle.device_rules.specs.{Logs.log_of, Outcomes.Outcome, Outcomes.effects_of, QuietRequests.is_quiet_host, QuietRequests.is_quiet_manager, QuietRequests.leaves_table}
 use Rattle.device_rules.specs.TagTable.{IsEntry, IsTable}
-use Rattle.device_rules.proofs.TagEntries.{entry-moved}
-use Rattle.device_rules.proofs.SettledTags.{unended}
+use Rattle.device_rules.specs.{Tags.is_referenced, Tags.last_offer, Tags.last_offer_after, Tags.open_tags, Tags.reference_after, Tags.tag_region, Tags.tag_runs, Tags.tags_after, Views.View}
 
 accepted-left : (c : Configuration) (h : HostId) (accepted : List Extent) (e : Effect) → leaves_table e ≡ true → accepted_after c h accepted e ≡ accepted
 accepted-left c h accepted (Effect.Answer k xs) left = absurd (false≢true left)

@@ -1,28 +1,16 @@
 -- The table after the manager adds a reference to a tag, or removes it: 5606h and 5607h.
 use Rattle.std.proofs.Common.{◌≡◌, ◌⊎◌, Bool, true, false, ◌&&◌, ◌||◌, not, List, [], ◌∷◌, ◌++◌, refl, sym, ap, subst, ◌∙◌, inl, inr}
-use Rattle.std.specs.Prelude.{if◌then◌else◌}
-use Rattle.std.specs.List.{list_any}
-use Rattle.std.proofs.lemmas.Bool.{cases_Bool, or_left}
-use Rattle.cci_codec.specs.dcd_base.specs.Words.{has_tag, is_zero_tag, same_tag}
-use Rattle.cci_codec.specs.dcd_base.specs.declared.capacity.Tag.{Tag}
-use Rattle.cci_codec.specs.dcd_base.specs.declared.ids.HostId.{HostId}
-use Rattle.extent_list.specs.ExtentLists.{has_extent_of}
+use Rattle.std.{specs.Prelude.if◌then◌else◌, specs.List.list_any, proofs.lemmas.Bool.cases_Bool, proofs.lemmas.Bool.or_left}
+use Rattle.cci_codec.specs.dcd_base.specs.{Words.has_tag, Words.is_zero_tag, Words.same_tag, declared.capacity.Tag.Tag, declared.ids.HostId.HostId}
+use Rattle.extent_list.specs.{ExtentLists.has_extent_of, media_map.specs.region_config.specs.Configurations.Configuration, media_map.specs.region_config.specs.Granules.hosts_of}
 use Rattle.journal_core.specs.declared.outcome.Effect.{Effect}
-use Rattle.extent_list.specs.media_map.specs.region_config.specs.Configurations.{Configuration}
-use Rattle.extent_list.specs.media_map.specs.region_config.specs.Granules.{hosts_of}
 use Rattle.tag_refs.specs.Tables.{entries_changed, is_entry_of, is_used, passes, still_used, with_reference, entry_referenced}
 use Rattle.tag_refs.specs.declared.entries.TagEntry.{TagEntry}
-use Rattle.device_rules.specs.Outcomes.{effects_of, ended}
-use Rattle.device_rules.specs.TagCommands.{add_reference_outcome, remove_reference_outcome}
-use Rattle.device_rules.specs.Tags.{is_accepted_by, is_live, is_offered_to, is_referenced, last_offer, open_tags, tag_region, tag_runs}
-use Rattle.device_rules.specs.Pictures.{picture_of}
-use Rattle.device_rules.specs.Standing.{Sound}
-use Rattle.device_rules.proofs.Pictures.{picture-append}
-use Rattle.device_rules.proofs.TagSteps.{same_tag-back, same_tag-is, same_tag-self}
-use Rattle.device_rules.specs.TagTable.{IsEntry, IsTable}
-use Rattle.device_rules.proofs.HostBits.{host_bits-same}
+use Rattle.device_rules.proofs.{HostBits.host_bits-same, Pictures.picture-append, SettledTags.mapped, SettledTags.settled, SettledTags.unended}
 use Rattle.device_rules.proofs.TagEntries.{entry-moved, open_uses, table_passes, used_is, uses}
-use Rattle.device_rules.proofs.SettledTags.{mapped, settled, unended}
+use Rattle.device_rules.{proofs.TagSteps.same_tag-back, proofs.TagSteps.same_tag-is, proofs.TagSteps.same_tag-self, specs.Outcomes.effects_of, specs.Outcomes.ended, specs.Pictures.picture_of}
+use Rattle.device_rules.specs.{Standing.Sound, TagCommands.add_reference_outcome, TagCommands.remove_reference_outcome, TagTable.IsEntry, TagTable.IsTable}
+use Rattle.device_rules.specs.Tags.{is_accepted_by, is_live, is_offered_to, is_referenced, last_offer, open_tags, tag_region, tag_runs}
 
 -- ---- whether the manager has a reference
 

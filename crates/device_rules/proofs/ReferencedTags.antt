@@ -1,46 +1,21 @@
 -- A tag to which the manager has a reference is open.
 use Rattle.std.proofs.Common.{◌≡◌, Bool, true, false, ◌&&◌, ◌||◌, not, List, [], ◌∷◌, ◌++◌, None, refl, sym, ap, subst, ◌∙◌, inl, inr}
-use Rattle.std.specs.Prelude.{if◌then◌else◌, fold}
-use Rattle.std.specs.List.{list_all, list_any}
-use Rattle.std.proofs.lemmas.Bool.{and_parts, cases_Bool, false≢true, not-false, or_left, or_right}
-use Rattle.std.proofs.lemmas.List.Folds.{list_any-append}
-use Rattle.std.proofs.lemmas.List.Sums.{fold-append}
-use Rattle.cci_codec.specs.dcd_base.specs.Words.{has_tag, same_tag}
-use Rattle.cci_codec.specs.dcd_base.specs.declared.capacity.Tag.{Tag}
-use Rattle.cci_codec.specs.dcd_base.specs.declared.ids.HostId.{HostId}
-use Rattle.cci_codec.specs.dcd_base.specs.declared.steps.LogId.{LogId}
-use Rattle.extent_list.specs.dcd_codes.specs.declared.rules.Rule.{Rule}
+use Rattle.std.proofs.lemmas.{Bool.and_parts, Bool.cases_Bool, Bool.false≢true, Bool.not-false, Bool.or_left, Bool.or_right, List.Folds.list_any-append, List.Sums.fold-append}
+use Rattle.std.specs.{List.list_all, List.list_any, Prelude.if◌then◌else◌, Prelude.fold}
+use Rattle.cci_codec.specs.dcd_base.specs.{Words.has_tag, Words.same_tag, declared.capacity.Tag.Tag, declared.ids.HostId.HostId, declared.steps.LogId.LogId}
+use Rattle.extent_list.specs.{dcd_codes.specs.declared.rules.Rule.Rule, media_map.specs.Places.region_at, media_map.specs.region_config.specs.Configurations.Configuration}
+use Rattle.extent_list.specs.media_map.specs.region_config.specs.{Granules.hosts_of, Granules.region_spec, Soundness.IsSound}
 use Rattle.fm_payloads.specs.declared.requests.FmRequest.{FmRequest}
 use Rattle.host_payloads.specs.declared.requests.HostRequest.{HostRequest}
-use Rattle.journal_core.proofs.JournalSteps.{effects-push}
-use Rattle.journal_core.specs.Entries.{effects}
-use Rattle.journal_core.specs.declared.entries.Entry.{Entry}
-use Rattle.journal_core.specs.declared.outcome.Effect.{Effect}
-use Rattle.extent_list.specs.media_map.specs.Places.{region_at}
-use Rattle.extent_list.specs.media_map.specs.region_config.specs.Configurations.{Configuration}
-use Rattle.extent_list.specs.media_map.specs.region_config.specs.Granules.{hosts_of, region_spec}
-use Rattle.extent_list.specs.media_map.specs.region_config.specs.Soundness.{IsSound}
-use Rattle.device_rules.specs.Answers.{host_outcome, manager_outcome, manager_rule, scrubbed, zeroes}
-use Rattle.device_rules.specs.Legal.{Legal}
-use Rattle.device_rules.specs.Logs.{log_of}
-use Rattle.device_rules.specs.Outcomes.{Outcome, effects_of, ended}
-use Rattle.device_rules.specs.ReleaseOutcomes.{is_cleaning, is_forced, removed}
-use Rattle.device_rules.specs.ResponseOutcomes.{unhold}
-use Rattle.device_rules.specs.TagCommands.{add_reference_outcome, remove_reference_outcome}
-use Rattle.device_rules.specs.Tags.{is_accepted_by, is_live, is_offered_to, is_referenced, open_tags, reference_after, tags_after}
-use Rattle.device_rules.specs.Views.{View, view_of}
-use Rattle.device_rules.specs.Pictures.{picture_of}
-use Rattle.device_rules.specs.Standing.{Sound}
-use Rattle.device_rules.proofs.LegalSound.{legal_is_sound}
-use Rattle.device_rules.proofs.Overlaps.{not_broken}
-use Rattle.device_rules.proofs.TagSteps.{same_tag-is}
+use Rattle.journal_core.{proofs.JournalSteps.effects-push, specs.Entries.effects, specs.declared.entries.Entry.Entry, specs.declared.outcome.Effect.Effect}
+use Rattle.device_rules.proofs.{Leaving.over-leaving, LegalSound.legal_is_sound, LegalSteps.Cases, LegalSteps.by_steps, LegalSteps.step_case, Overlaps.not_broken}
+use Rattle.device_rules.proofs.{ReferenceSteps.IsReferred, ReferenceSteps.added, ReferenceSteps.referred, SettledTags.has_filter, SettledTags.referenced-outcome, SettledTags.tags-outcome}
+use Rattle.device_rules.proofs.{TagEntries.open_uses, TagEntries.uses, TagSteps.same_tag-is}
+use Rattle.device_rules.specs.{Answers.host_outcome, Answers.manager_outcome, Answers.manager_rule, Answers.scrubbed, Answers.zeroes, Legal.Legal, Logs.log_of}
+use Rattle.device_rules.specs.{Outcomes.Outcome, Outcomes.effects_of, Outcomes.ended, Pictures.picture_of, ReleaseOutcomes.is_cleaning, ReleaseOutcomes.is_forced, ReleaseOutcomes.removed}
+use Rattle.device_rules.specs.{ResponseOutcomes.unhold, ShownTags.ReferencedAreOpen, Standing.Sound, TagCommands.add_reference_outcome, TagCommands.remove_reference_outcome}
+use Rattle.device_rules.specs.{Tags.is_accepted_by, Tags.is_live, Tags.is_offered_to, Tags.is_referenced, Tags.open_tags, Tags.reference_after, Tags.tags_after, Views.View, Views.view_of}
 use Rattle.device_rules.proofs.EffectKinds.{PassClearing, PassHeld, PassLists, clear_passes, give_back_passes, removals_pass, respond_passes, unhold_passes, zeroes_pass}
-use Rattle.device_rules.proofs.Leaving.{over-leaving}
-use Rattle.device_rules.proofs.LegalSteps.{Cases, by_steps, step_case}
-use Rattle.device_rules.proofs.TagEntries.{open_uses, uses}
-use Rattle.device_rules.specs.ShownTags.{ReferencedAreOpen}
-use Rattle.device_rules.proofs.ReferenceSteps.{IsReferred, added, referred}
-use Rattle.device_rules.proofs.SettledTags.{has_filter, referenced-outcome, tags-outcome}
 
 -- neither a reference nor the end of a tag
 abbrev keeps_tags : Effect → Bool

@@ -1,19 +1,12 @@
 -- References to tags keep what every legal journal keeps: 5606h and 5607h.
 use Rattle.std.proofs.Common.{◌≡◌, ◌⊎◌, Bool, true, false, not, ◌||◌, List, [], ◌∷◌, ◌++◌, refl, ap, ◌∙◌, inl, inr}
-use Rattle.std.specs.Prelude.{if◌then◌else◌}
-use Rattle.std.proofs.lemmas.Bool.{and_from, and_parts, cases_Bool, or_left, or_right}
-use Rattle.cci_codec.specs.dcd_base.specs.declared.capacity.Tag.{Tag}
-use Rattle.cci_codec.specs.dcd_base.specs.Words.{has_tag, is_zero_tag, same_tag}
+use Rattle.std.{specs.Prelude.if◌then◌else◌, proofs.lemmas.Bool.and_from, proofs.lemmas.Bool.and_parts, proofs.lemmas.Bool.cases_Bool, proofs.lemmas.Bool.or_left, proofs.lemmas.Bool.or_right}
+use Rattle.cci_codec.specs.dcd_base.specs.{declared.capacity.Tag.Tag, Words.has_tag, Words.is_zero_tag, Words.same_tag}
 use Rattle.extent_list.specs.media_map.specs.region_config.specs.Configurations.{Configuration}
 use Rattle.journal_core.specs.declared.outcome.Effect.{Effect}
-use Rattle.device_rules.specs.Outcomes.{effects_of}
-use Rattle.device_rules.specs.Tags.{is_referenced}
-use Rattle.device_rules.specs.TagCommands.{add_reference_outcome, remove_reference_outcome}
+use Rattle.device_rules.{proofs.ListSteps.each-change, proofs.Settling.outcome_keeps, proofs.TagSteps.same_tag-back, specs.Outcomes.effects_of}
 use Rattle.device_rules.specs.Pictures.{Picture, extents_at, is_with_a_host, lives, picture_after, picture_of}
-use Rattle.device_rules.specs.Standing.{IsHome, IsUnder, Sound, Stands}
-use Rattle.device_rules.proofs.ListSteps.{each-change}
-use Rattle.device_rules.proofs.Settling.{outcome_keeps}
-use Rattle.device_rules.proofs.TagSteps.{same_tag-back}
+use Rattle.device_rules.specs.{Standing.IsHome, Standing.IsUnder, Standing.Sound, Standing.Stands, TagCommands.add_reference_outcome, TagCommands.remove_reference_outcome, Tags.is_referenced}
 
 -- what stands does not read the references
 stands_referenced : (c : Configuration) (p : Picture) (on : Tag → Bool) → Stands c p → Stands c (record p { referenced = on })

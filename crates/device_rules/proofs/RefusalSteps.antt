@@ -1,43 +1,19 @@
 -- A refused command ends one held list of its sender at most, and leaves all else.
 use Rattle.std.proofs.Common.{◌≡◌, ℕ, Bool, true, false, List, [], ◌∷◌, ◌++◌, None, inl, inr, refl, sym, ap, subst, ◌∙◌}
-use Rattle.std.specs.Prelude.{◌⊎◌, ◌==◌, fold, if◌then◌else◌}
-use Rattle.std.specs.List.{list_all, list_any}
-use Rattle.std.specs.declared.result.Result.{Result}
+use Rattle.std.proofs.lemmas.{Bool.cases_eq, Bool.eq-eqb, Bool.eqb-true, Bool.ne_eqb, List.Sums.fold_push}
+use Rattle.std.specs.{List.list_all, List.list_any, Prelude.◌⊎◌, Prelude.◌==◌, Prelude.fold, Prelude.if◌then◌else◌, declared.result.Result.Result}
 use Rattle.std.specs.declared.result.Result.TheVariants.{Ok, Err}
-use Rattle.std.proofs.lemmas.Bool.{cases_eq, eq-eqb, eqb-true, ne_eqb}
-use Rattle.std.proofs.lemmas.List.Sums.{fold_push}
-use Rattle.cci_codec.specs.declared.messages.Request.{Request}
-use Rattle.cci_codec.specs.dcd_base.specs.declared.capacity.Extent.{Extent}
-use Rattle.cci_codec.specs.dcd_base.specs.declared.ids.HostId.{HostId}
-use Rattle.cci_codec.specs.dcd_base.specs.declared.steps.Actor.{Actor}
-use Rattle.extent_list.specs.dcd_codes.specs.declared.rules.Rule.{Rule}
+use Rattle.cci_codec.specs.{declared.messages.Request.Request, dcd_base.specs.declared.capacity.Extent.Extent, dcd_base.specs.declared.ids.HostId.HostId, dcd_base.specs.declared.steps.Actor.Actor}
+use Rattle.extent_list.specs.{dcd_codes.specs.declared.rules.Rule.Rule, media_map.specs.region_config.specs.Configurations.Configuration, media_map.specs.region_config.specs.Granules.region_spec}
 use Rattle.fm_payloads.specs.ManagerPayloads.{manager_request}
-use Rattle.journal_core.proofs.JournalSteps.{effects-push, over-push}
-use Rattle.journal_core.specs.Entries.{effects}
-use Rattle.journal_core.specs.Holders.{holding_after, soil_after, taking_after}
-use Rattle.journal_core.specs.declared.acts.Act.{Act}
-use Rattle.journal_core.specs.declared.acts.Reply.{Reply}
-use Rattle.journal_core.specs.declared.entries.Entry.{Entry}
-use Rattle.journal_core.specs.declared.outcome.Effect.{Effect}
-use Rattle.journal_core.specs.declared.outcome.HeldKind.{HeldKind}
-use Rattle.extent_list.specs.media_map.specs.region_config.specs.Configurations.{Configuration}
-use Rattle.extent_list.specs.media_map.specs.region_config.specs.Granules.{region_spec}
+use Rattle.journal_core.{proofs.JournalSteps.effects-push, proofs.JournalSteps.over-push, specs.Entries.effects, specs.Holders.holding_after, specs.Holders.soil_after, specs.Holders.taking_after}
+use Rattle.journal_core.specs.declared.{acts.Act.Act, acts.Reply.Reply, entries.Entry.Entry, outcome.Effect.Effect, outcome.HeldKind.HeldKind}
 use Rattle.event_log.specs.Logs.{empty_log}
-use Rattle.device_rules.specs.Answers.{dropped, effects_with, host_result_in, manager_result, reply_with}
-use Rattle.device_rules.specs.Hosts.{block_after}
-use Rattle.device_rules.specs.Legal.{Meets, is_zeroing, right_answer, word_after, word_by, word_of}
-use Rattle.device_rules.specs.Logs.{log_after}
-use Rattle.device_rules.specs.Outcomes.{Outcome}
-use Rattle.device_rules.specs.ResponseOutcomes.{unhold}
-use Rattle.device_rules.specs.Tags.{last_offer_after, reference_after, status, tags_after}
-use Rattle.device_rules.specs.Views.{View, view_after, view_of}
-use Rattle.device_rules.proofs.Leaving.{is_quiet}
-use Rattle.device_rules.proofs.ViewSteps.{view_of-push}
-use Rattle.device_rules.proofs.StatusParts.{status-quiet}
-use Rattle.device_rules.proofs.ViewCommands.{after_refusal, view_after-dropped}
-use Rattle.device_rules.proofs.ViewOthers.{dropped-leaves}
-use Rattle.device_rules.proofs.ViewsLeft.{view_after-left}
+use Rattle.device_rules.proofs.{Leaving.is_quiet, StatusParts.status-quiet, ViewCommands.after_refusal, ViewCommands.view_after-dropped, ViewOthers.dropped-leaves, ViewSteps.view_of-push}
+use Rattle.device_rules.{proofs.ViewsLeft.view_after-left, specs.Answers.dropped, specs.Answers.effects_with, specs.Answers.host_result_in, specs.Answers.manager_result, specs.Answers.reply_with}
+use Rattle.device_rules.specs.{Hosts.block_after, Legal.Meets, Legal.is_zeroing, Legal.right_answer, Legal.word_after, Legal.word_by, Legal.word_of, Logs.log_after, Outcomes.Outcome}
 use Rattle.device_rules.specs.Refusals.{EndsHeldAtMost, IsRefusal, IsSeenRefused, KeepsRest, opcode_for, seen_refused, without_list_of}
+use Rattle.device_rules.specs.{ResponseOutcomes.unhold, Tags.last_offer_after, Tags.reference_after, Tags.status, Tags.tags_after, Views.View, Views.view_after, Views.view_of}
 
 -- ---- the effects of a refused entry
 

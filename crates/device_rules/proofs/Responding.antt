@@ -1,40 +1,20 @@
 -- A 4802h that breaks no rule keeps what every legal journal keeps.
 use Rattle.std.proofs.Common.{◌≡◌, ◌⊎◌, ℕ, ◌+◌, ◌<◌, Bool, true, false, not, ◌&&◌, List, [], ◌∷◌, ◌++◌, length, map, None, refl, ap, sym, subst, ◌∙◌, inl, inr, ltb}
-use Rattle.std.specs.List.{AllByRecursion}
-use Rattle.std.proofs.lemmas.Bool.{false≢true, ltb-false, not-false, and_cases}
-use Rattle.cci_codec.specs.dcd_base.specs.declared.capacity.Extent.{Extent}
-use Rattle.cci_codec.specs.dcd_base.specs.declared.capacity.Tag.{Tag}
-use Rattle.cci_codec.specs.dcd_base.specs.declared.ids.HostId.{HostId}
-use Rattle.cci_codec.specs.dcd_base.specs.Limits.{extents_supported}
-use Rattle.cci_codec.specs.dcd_base.specs.Words.{◌or◌, has_tag}
-use Rattle.extent_list.specs.dcd_codes.specs.declared.rules.Rule.{Rule}
-use Rattle.extent_list.specs.dcd_codes.specs.Rules.{◌breaks◌, each_in}
-use Rattle.extent_list.specs.media_map.specs.region_config.specs.Configurations.{Configuration}
-use Rattle.extent_list.specs.media_map.specs.region_config.specs.Soundness.{IsSound}
-use Rattle.extent_list.specs.media_map.specs.region_config.specs.Granules.{region_spec, with_blocks}
-use Rattle.extent_list.specs.media_map.specs.Places.{region_at, run_of}
+use Rattle.std.{specs.List.AllByRecursion, proofs.lemmas.Bool.false≢true, proofs.lemmas.Bool.ltb-false, proofs.lemmas.Bool.not-false, proofs.lemmas.Bool.and_cases}
+use Rattle.cci_codec.specs.dcd_base.specs.{declared.capacity.Extent.Extent, declared.capacity.Tag.Tag, declared.ids.HostId.HostId, Limits.extents_supported, Words.◌or◌, Words.has_tag}
 use Rattle.extent_list.specs.ExtentLists.{count_in, is_in, is_whole, marked, tags_of}
-use Rattle.journal_core.specs.declared.entries.Entry.{Entry}
-use Rattle.journal_core.specs.declared.outcome.Effect.{Effect}
-use Rattle.journal_core.specs.declared.outcome.HeldKind.{HeldKind}
-use Rattle.journal_core.specs.Entries.{effects}
 use Rattle.extent_list.specs.Listing.{incomplete, is_shareable_at, misplaced, not_whole, overlapping, too_many_extents, too_many_listed}
-use Rattle.offer_core.specs.Offerings.{oldest_of}
-use Rattle.offer_core.specs.Responses.{extent_rule, response_list_rule, respond_rule}
-use Rattle.selection.proofs.Placed.{IsPlaced, placed}
-use Rattle.device_rules.specs.Outcomes.{effects_of}
-use Rattle.device_rules.specs.ResponseOutcomes.{respond_changes, respond_outcome, unhold}
-use Rattle.device_rules.specs.Views.{View, view_of}
-use Rattle.device_rules.specs.Pictures.{Picture, lives, picture_after, picture_of}
-use Rattle.device_rules.specs.Standing.{IsMade, Sound, Stands}
-use Rattle.device_rules.proofs.Holding.{present_whole}
-use Rattle.device_rules.proofs.Homes.{placed_made, region_at_same, shareable_same}
-use Rattle.device_rules.proofs.ListSteps.{each-change}
+use Rattle.extent_list.specs.{dcd_codes.specs.Rules.◌breaks◌, dcd_codes.specs.Rules.each_in, dcd_codes.specs.declared.rules.Rule.Rule, media_map.specs.Places.region_at, media_map.specs.Places.run_of}
+use Rattle.extent_list.specs.media_map.specs.region_config.specs.{Configurations.Configuration, Granules.region_spec, Granules.with_blocks, Soundness.IsSound}
+use Rattle.journal_core.specs.{declared.entries.Entry.Entry, declared.outcome.Effect.Effect, declared.outcome.HeldKind.HeldKind, Entries.effects}
+use Rattle.offer_core.specs.{Offerings.oldest_of, Responses.extent_rule, Responses.response_list_rule, Responses.respond_rule}
+use Rattle.selection.proofs.{Placed.IsPlaced, Placed.placed, Prescribed.neither}
+use Rattle.device_rules.proofs.{Holding.present_whole, Homes.placed_made, Homes.region_at_same, Homes.shareable_same, ListSteps.each-change}
 use Rattle.device_rules.proofs.OneAnswer.{IsAnswer, answer_lives, answer_picture, answer_stands, q}
 use Rattle.device_rules.proofs.Overlaps.{Spread, not_broken, row_each, row_spread, spread_once}
-use Rattle.selection.proofs.Prescribed.{neither}
-use Rattle.device_rules.proofs.Quiet.{hold_quiet, quiet_front, quiet_outcome_keeps, unhold_quiet}
-use Rattle.device_rules.proofs.Settling.{outcome_keeps}
+use Rattle.device_rules.{proofs.Quiet.hold_quiet, proofs.Quiet.quiet_front, proofs.Quiet.quiet_outcome_keeps, proofs.Quiet.unhold_quiet, proofs.Settling.outcome_keeps, specs.Outcomes.effects_of}
+use Rattle.device_rules.specs.Pictures.{Picture, lives, picture_after, picture_of}
+use Rattle.device_rules.specs.{ResponseOutcomes.respond_changes, ResponseOutcomes.respond_outcome, ResponseOutcomes.unhold, Standing.IsMade, Standing.Sound, Standing.Stands, Views.View, Views.view_of}
 
 -- what the row says of a listed extent
 record IsListed (c : Configuration) (b : ℕ → ℕ) (h : HostId) (offer : List Extent) (x : Extent) : Type 0 where

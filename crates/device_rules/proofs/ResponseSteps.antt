@@ -1,33 +1,16 @@
 -- The table after a host's response to its oldest offer: 4802h.
 use Rattle.std.proofs.Common.{◌≡◌, ◌<◌, Bool, true, false, ◌||◌, List, [], ◌∷◌, ◌++◌, map, length, None, refl, sym, ap, subst, ◌∙◌}
+use Rattle.std.{proofs.lemmas.Bool.eq-eqb, proofs.lemmas.Bool.false≢true, proofs.lemmas.Bool.false_from_ne_true, proofs.lemmas.List.Folds.list_any-append, specs.List.list_any}
 use Rattle.std.specs.Prelude.{drop, fold, if◌then◌else◌}
-use Rattle.std.specs.List.{list_any}
-use Rattle.std.proofs.lemmas.Bool.{eq-eqb, false≢true, false_from_ne_true}
-use Rattle.std.proofs.lemmas.List.Folds.{list_any-append}
-use Rattle.cci_codec.specs.dcd_base.specs.Words.{has_tag, same_tag}
-use Rattle.cci_codec.specs.dcd_base.specs.declared.capacity.Extent.{Extent}
-use Rattle.cci_codec.specs.dcd_base.specs.declared.capacity.Tag.{Tag}
-use Rattle.cci_codec.specs.dcd_base.specs.declared.ids.HostId.{HostId}
-use Rattle.extent_list.specs.ExtentLists.{has_extent_of, marked, tags_of}
-use Rattle.journal_core.specs.declared.outcome.Effect.{Effect}
-use Rattle.journal_core.specs.declared.outcome.HeldKind.{HeldKind}
-use Rattle.extent_list.specs.Listing.{too_many_listed}
-use Rattle.extent_list.specs.media_map.specs.Places.{run_of}
-use Rattle.offer_core.specs.Offerings.{oldest_of}
-use Rattle.offer_core.specs.Responses.{response_list_rule, respond_rule}
-use Rattle.extent_list.specs.media_map.specs.region_config.specs.Configurations.{Configuration}
-use Rattle.extent_list.specs.media_map.specs.region_config.specs.Granules.{with_blocks}
-use Rattle.extent_list.specs.media_map.specs.region_config.specs.Soundness.{IsSound}
-use Rattle.device_rules.specs.ResponseOutcomes.{respond_changes, unhold}
+use Rattle.cci_codec.specs.dcd_base.specs.{Words.has_tag, Words.same_tag, declared.capacity.Extent.Extent, declared.capacity.Tag.Tag, declared.ids.HostId.HostId}
+use Rattle.extent_list.specs.{ExtentLists.has_extent_of, ExtentLists.marked, ExtentLists.tags_of, Listing.too_many_listed, media_map.specs.Places.run_of}
+use Rattle.extent_list.specs.media_map.specs.region_config.specs.{Configurations.Configuration, Granules.with_blocks, Soundness.IsSound}
+use Rattle.journal_core.specs.declared.outcome.{Effect.Effect, HeldKind.HeldKind}
+use Rattle.offer_core.specs.{Offerings.oldest_of, Responses.response_list_rule, Responses.respond_rule}
+use Rattle.device_rules.proofs.{HostOfTagsSet.Told, OneAnswer.IsAnswer, OneAnswer.answer_picture, OneAnswer.q, OneAnswer.tags_of-has, OpenLive.has_marked, Quiet.quiet_front, Quiet.unhold_quiet}
+use Rattle.device_rules.{proofs.Responding.answer_of, specs.Pictures.Picture, specs.Pictures.picture_after, specs.ResponseOutcomes.respond_changes, specs.ResponseOutcomes.unhold, specs.Standing.Sound}
 use Rattle.device_rules.specs.Tags.{tags_after}
-use Rattle.device_rules.specs.Pictures.{Picture, picture_after}
-use Rattle.device_rules.specs.Standing.{Sound}
-use Rattle.device_rules.proofs.OneAnswer.{IsAnswer, answer_picture, q, tags_of-has}
-use Rattle.device_rules.proofs.OpenLive.{has_marked}
 use Rattle.selection.proofs.Prescribed.{neither}
-use Rattle.device_rules.proofs.Quiet.{quiet_front, unhold_quiet}
-use Rattle.device_rules.proofs.Responding.{answer_of}
-use Rattle.device_rules.proofs.HostOfTagsSet.{Told}
 
 -- what follows from what does not hold does not hold
 pub unless_holds : (a b : Bool) → (a ≡ true → b ≡ true) → b ≡ false → a ≡ false

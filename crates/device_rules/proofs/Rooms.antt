@@ -1,37 +1,22 @@
 -- The records of every legal step find room: one that finds a log full is only counted.
 use Rattle.std.proofs.Common.{◌≡◌, ◌≢◌, ℕ, zero, suc, ◌+◌, ◌<◌, Bool, true, false, List, [], ◌∷◌, ◌++◌, inl, inr, refl, sym, subst, ◌∙◌, arith}
-use Rattle.std.specs.Prelude.{fold, map, ◌==◌, if◌then◌else◌}
-use Rattle.std.specs.List.{AllByRecursion, list_all, range_with_len}
 use Rattle.std.proofs.lemmas.Bool.{and_parts, cases_Bool, eqb-false, false≢true, ne_eqb}
-use Rattle.cci_codec.specs.dcd_base.specs.declared.capacity.Extent.{Extent}
-use Rattle.cci_codec.specs.dcd_base.specs.declared.ids.HostId.{HostId}
-use Rattle.cci_codec.specs.dcd_base.specs.declared.steps.LogId.{LogId}
+use Rattle.std.specs.{List.AllByRecursion, List.list_all, List.range_with_len, Prelude.fold, Prelude.map, Prelude.◌==◌, Prelude.if◌then◌else◌}
+use Rattle.cci_codec.specs.dcd_base.specs.declared.{capacity.Extent.Extent, ids.HostId.HostId, steps.LogId.LogId}
 use Rattle.event_log.specs.Logs.{IsHistory, Log, next_handle, room_in}
-use Rattle.event_records.specs.declared.events.Event.{Event}
-use Rattle.event_records.specs.declared.events.EventKind.{EventKind}
+use Rattle.event_records.specs.declared.events.{Event.Event, EventKind.EventKind}
 use Rattle.fm_payloads.specs.declared.requests.FmRequest.{FmRequest}
 use Rattle.host_payloads.specs.declared.requests.HostRequest.{HostRequest}
-use Rattle.journal_core.specs.Entries.{effects}
-use Rattle.journal_core.specs.declared.entries.Entry.{Entry}
-use Rattle.journal_core.specs.declared.outcome.Effect.{Effect}
+use Rattle.journal_core.specs.{Entries.effects, declared.entries.Entry.Entry, declared.outcome.Effect.Effect}
 use Rattle.extent_list.specs.media_map.specs.region_config.specs.Configurations.{Configuration}
-use Rattle.device_rules.specs.Answers.{host_outcome, manager_outcome, scrubbed, zeroes}
-use Rattle.device_rules.specs.EventCommands.{clear_changes, clear_outcome}
-use Rattle.device_rules.specs.Legal.{Legal, Meets}
-use Rattle.device_rules.specs.Logs.{log_after, log_of, same_log}
-use Rattle.device_rules.specs.Outcomes.{Outcome, effects_of, ended, entered, entered_all, no_extent, record_for}
-use Rattle.device_rules.specs.ReleaseOutcomes.{is_cleaning, is_forced, removed}
-use Rattle.device_rules.specs.ResponseOutcomes.{response_records, unhold}
-use Rattle.device_rules.specs.Tags.{is_referenced}
-use Rattle.device_rules.specs.Views.{View, view_after, view_of}
-use Rattle.device_rules.specs.ResponseOutcomes.{respond_changes}
 use Rattle.device_rules.proofs.EffectKinds.{clear_passes, give_back_passes, reference_passes, removals_pass, respond_passes, unhold_passes, zeroes_pass}
-use Rattle.device_rules.proofs.Leaving.{all_pass, both_pass, map_passes, over-leaving}
-use Rattle.device_rules.proofs.LegalLogs.{legal_logs}
-use Rattle.device_rules.proofs.LegalSteps.{step_case}
+use Rattle.device_rules.proofs.{Leaving.all_pass, Leaving.both_pass, Leaving.map_passes, Leaving.over-leaving, LegalLogs.legal_logs, LegalSteps.step_case}
 use Rattle.device_rules.proofs.LogHistories.{entered-history, entered_all-other, leaves_logs, log-left, one_log, told}
-use Rattle.device_rules.proofs.LogOutcomes.{held_leaves, lists_leave}
-use Rattle.device_rules.specs.Rooms.{HasRoom, HaveRoom, RoomFor}
+use Rattle.device_rules.{proofs.LogOutcomes.held_leaves, proofs.LogOutcomes.lists_leave, specs.Answers.host_outcome, specs.Answers.manager_outcome, specs.Answers.scrubbed, specs.Answers.zeroes}
+use Rattle.device_rules.specs.{EventCommands.clear_changes, EventCommands.clear_outcome, Legal.Legal, Legal.Meets, Logs.log_after, Logs.log_of, Logs.same_log}
+use Rattle.device_rules.specs.Outcomes.{Outcome, effects_of, ended, entered, entered_all, no_extent, record_for}
+use Rattle.device_rules.specs.{ReleaseOutcomes.is_cleaning, ReleaseOutcomes.is_forced, ReleaseOutcomes.removed, ResponseOutcomes.response_records, ResponseOutcomes.unhold}
+use Rattle.device_rules.specs.{ResponseOutcomes.respond_changes, Rooms.HasRoom, Rooms.HaveRoom, Rooms.RoomFor, Tags.is_referenced, Views.View, Views.view_after, Views.view_of}
 
 -- ---- effects without records
 

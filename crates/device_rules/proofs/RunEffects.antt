@@ -1,14 +1,9 @@
 -- What runs that are taken, left, soiled or zeroed make of one granule.
 use Rattle.std.proofs.Common.{◌≡◌, ℕ, Bool, true, false, ◌&&◌, ◌||◌, not, List, [], ◌∷◌, refl, ap, ◌∙◌}
 use Rattle.std.specs.Prelude.{fold, map, ◌==◌, if◌then◌else◌}
-use Rattle.cci_codec.specs.dcd_base.specs.declared.ids.HostId.{HostId}
-use Rattle.cci_codec.specs.dcd_base.specs.declared.capacity.Extent.{Extent}
-use Rattle.cci_codec.specs.dcd_base.specs.declared.media.Run.{Run}
-use Rattle.cci_codec.specs.dcd_base.specs.Words.{has_granule, has_in_runs}
-use Rattle.extent_list.specs.media_map.specs.region_config.specs.Configurations.{Configuration}
-use Rattle.extent_list.specs.media_map.specs.Places.{run_of}
-use Rattle.journal_core.specs.declared.outcome.Effect.{Effect}
-use Rattle.journal_core.specs.Holders.{holding_after, soil_after, taking_after}
+use Rattle.cci_codec.specs.dcd_base.specs.{declared.ids.HostId.HostId, declared.capacity.Extent.Extent, declared.media.Run.Run, Words.has_granule, Words.has_in_runs}
+use Rattle.extent_list.specs.media_map.specs.{region_config.specs.Configurations.Configuration, Places.run_of}
+use Rattle.journal_core.specs.{declared.outcome.Effect.Effect, Holders.holding_after, Holders.soil_after, Holders.taking_after}
 use Rattle.device_rules.specs.ReleaseOutcomes.{leaves, removals}
 
 -- each extent is taken

@@ -1,28 +1,16 @@
 -- A table after a command, where its entries are right for the changes of the command.
 use Rattle.std.proofs.Common.{◌≡◌, ◌⊎◌, Bool, true, false, ◌&&◌, not, List, [], ◌∷◌, ◌++◌, map, filter, None, refl, sym, ap, ◌∙◌, inl, inr}
-use Rattle.std.specs.List.{AllByRecursion, list_any}
-use Rattle.std.proofs.lemmas.Bool.{cases_Bool, false≢true}
-use Rattle.std.proofs.lemmas.List.Sums.{fold-append}
-use Rattle.cci_codec.specs.dcd_base.specs.Words.{has_tag, is_zero_tag, same_tag}
-use Rattle.cci_codec.specs.dcd_base.specs.declared.capacity.Tag.{Tag}
-use Rattle.cci_codec.specs.dcd_base.specs.declared.ids.HostId.{HostId}
-use Rattle.extent_list.specs.ExtentLists.{has_extent_of}
+use Rattle.std.{specs.List.AllByRecursion, specs.List.list_any, proofs.lemmas.Bool.cases_Bool, proofs.lemmas.Bool.false≢true, proofs.lemmas.List.Sums.fold-append}
+use Rattle.cci_codec.specs.dcd_base.specs.{Words.has_tag, Words.is_zero_tag, Words.same_tag, declared.capacity.Tag.Tag, declared.ids.HostId.HostId}
+use Rattle.extent_list.specs.{ExtentLists.has_extent_of, media_map.specs.region_config.specs.Configurations.Configuration}
 use Rattle.journal_core.specs.declared.outcome.Effect.{Effect}
-use Rattle.extent_list.specs.media_map.specs.region_config.specs.Configurations.{Configuration}
-use Rattle.tag_refs.specs.Tables.{is_used, still_used}
-use Rattle.tag_refs.specs.declared.entries.TagEntry.{TagEntry}
-use Rattle.device_rules.specs.Hosts.{accepted_after, accepted_of, offers_after, offers_of}
-use Rattle.device_rules.specs.Outcomes.{Outcome, effects_of, ended}
-use Rattle.device_rules.specs.Tags.{is_live, is_referenced, last_offer, last_offer_after, open_tags, reference_after, tag_region, tag_runs, tags_after}
-use Rattle.device_rules.specs.Pictures.{picture_of}
-use Rattle.device_rules.specs.Standing.{Sound}
-use Rattle.device_rules.proofs.ListSteps.{each-change}
-use Rattle.device_rules.proofs.OutcomeSteps.{after-outcome}
-use Rattle.device_rules.proofs.Pictures.{picture-outcome}
-use Rattle.device_rules.proofs.TagSteps.{same_tag-is, without_tag, without_tags}
-use Rattle.device_rules.proofs.TagSearches.{filter_nothing, filter_twice}
-use Rattle.device_rules.specs.TagTable.{IsEntry, IsTable}
+use Rattle.tag_refs.specs.{Tables.is_used, Tables.still_used, declared.entries.TagEntry.TagEntry}
+use Rattle.device_rules.proofs.{ListSteps.each-change, OutcomeSteps.after-outcome, Pictures.picture-outcome}
 use Rattle.device_rules.proofs.TagEntries.{each_open, entry-moved, open_uses, tags_in, used_is, uses}
+use Rattle.device_rules.proofs.{TagSearches.filter_nothing, TagSearches.filter_twice, TagSteps.same_tag-is, TagSteps.without_tag, TagSteps.without_tags}
+use Rattle.device_rules.specs.{Hosts.accepted_after, Hosts.accepted_of, Hosts.offers_after, Hosts.offers_of, Outcomes.Outcome, Outcomes.effects_of, Outcomes.ended, Pictures.picture_of, Standing.Sound}
+use Rattle.device_rules.specs.TagTable.{IsEntry, IsTable}
+use Rattle.device_rules.specs.Tags.{is_live, is_referenced, last_offer, last_offer_after, open_tags, reference_after, tag_region, tag_runs, tags_after}
 
 -- ---- entries that change and keep their tags
 

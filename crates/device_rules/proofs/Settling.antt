@@ -1,24 +1,16 @@
 -- Once the tags of a command have ended, what stood within it is sound again.
 use Rattle.std.proofs.Common.{◌≡◌, ℕ, zero, suc, ◌+◌, ◌<◌, ◌≤◌, ◌⊎◌, Bool, true, false, not, ◌&&◌, ◌||◌, List, [], ◌∷◌, ◌++◌, length, refl, ap, sym, ◌∙◌, subst, inl, inr, arith}
+use Rattle.std.{proofs.lemmas.List.Folds.list_any-append, proofs.lemmas.List.Sums.length-filter, specs.List.AllByRecursion, specs.List.filter, specs.List.list_any, specs.List.range_with_len}
 use Rattle.std.specs.Prelude.{flat_map}
-use Rattle.std.proofs.lemmas.List.Sums.{length-filter}
-use Rattle.std.specs.List.{AllByRecursion, filter, list_any, range_with_len}
 use Rattle.std.proofs.lemmas.Bool.{and_from, and_parts, cases_Bool, cases_lt, false≢true, false_from_ne_true, not-true, not_from_false, or_left, or_right}
-use Rattle.std.proofs.lemmas.List.Folds.{list_any-append}
-use Rattle.cci_codec.specs.dcd_base.specs.declared.capacity.Extent.{Extent}
-use Rattle.cci_codec.specs.dcd_base.specs.declared.capacity.Tag.{Tag}
-use Rattle.cci_codec.specs.dcd_base.specs.declared.ids.HostId.{HostId}
-use Rattle.cci_codec.specs.dcd_base.specs.Words.{has_in_runs, has_tag, is_zero_tag, same_tag}
-use Rattle.extent_list.specs.media_map.specs.region_config.specs.Configurations.{Configuration}
-use Rattle.extent_list.specs.ExtentLists.{has_extent_of}
+use Rattle.cci_codec.specs.dcd_base.specs.{declared.capacity.Extent.Extent, declared.capacity.Tag.Tag, declared.ids.HostId.HostId, Words.has_in_runs, Words.has_tag, Words.is_zero_tag, Words.same_tag}
+use Rattle.extent_list.specs.{media_map.specs.region_config.specs.Configurations.Configuration, ExtentLists.has_extent_of}
 use Rattle.journal_core.specs.declared.outcome.Effect.{Effect}
-use Rattle.device_rules.specs.Outcomes.{Outcome, effects_of, ended}
-use Rattle.device_rules.specs.Tags.{tag_runs}
-use Rattle.device_rules.specs.Pictures.{Picture, extents_at, is_with_a_host, lives, picture_after, picture_of}
-use Rattle.device_rules.specs.Standing.{IsHome, IsUnder, Sound, Stands}
-use Rattle.device_rules.proofs.ListSteps.{each-change, many}
-use Rattle.device_rules.proofs.Pictures.{picture-append, picture-outcome}
+use Rattle.device_rules.proofs.{ListSteps.each-change, ListSteps.many, Pictures.picture-append, Pictures.picture-outcome}
 use Rattle.device_rules.proofs.TagSteps.{has_tag-filter, has_tag-kept, not_ended, open_before, open_still, same_tag-self, without_tag, without_tags}
+use Rattle.device_rules.specs.Outcomes.{Outcome, effects_of, ended}
+use Rattle.device_rules.specs.Pictures.{Picture, extents_at, is_with_a_host, lives, picture_after, picture_of}
+use Rattle.device_rules.specs.{Standing.IsHome, Standing.IsUnder, Standing.Sound, Standing.Stands, Tags.tag_runs}
 
 -- ---- a host with an extent of the tag keeps it alive
 

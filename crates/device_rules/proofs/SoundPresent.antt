@@ -1,15 +1,11 @@
 -- The configuration with the present blocks is sound where each region supports its present block.
 use Rattle.std.proofs.Common.{◌≡◌, ℕ, suc, ◌+◌, ◌*◌, ◌/◌, ◌%◌, ◌^◌, ◌<◌, ◌≤◌, true, length, refl, ap, sym, subst, ◌∙◌, inl, inr, arith, div-add-mod', mul-le-mul_right, zero-mul}
-use Rattle.std.specs.Prelude.{IsTrue}
-use Rattle.std.specs.Int.{w64, trailing_zeros}
-use Rattle.std.proofs.lemmas.Bool.{cases_lt}
+use Rattle.std.{specs.Prelude.IsTrue, specs.Int.w64, specs.Int.trailing_zeros, proofs.lemmas.Bool.cases_lt}
 use Rattle.cci_codec.specs.dcd_base.specs.declared.ids.HostId.{HostId}
-use Rattle.extent_list.specs.media_map.specs.region_config.specs.declared.region_spec.RegionSpec.{RegionSpec}
-use Rattle.extent_list.specs.media_map.specs.region_config.specs.Configurations.{Configuration}
+use Rattle.extent_list.specs.media_map.specs.region_config.{proofs.PresentBlocks.region_spec-with_blocks, specs.Configurations.Configuration}
 use Rattle.extent_list.specs.media_map.specs.region_config.specs.Granules.{first_granule, granule_size, granule_total, is_supported, region_spec, sizes_in, with_blocks}
-use Rattle.extent_list.specs.media_map.specs.region_config.specs.Setups.{decode_end, unit}
-use Rattle.extent_list.specs.media_map.specs.region_config.specs.Soundness.{IsSound, IsSoundRegion, IsSoundSeat}
-use Rattle.extent_list.specs.media_map.specs.region_config.proofs.PresentBlocks.{region_spec-with_blocks}
+use Rattle.extent_list.specs.media_map.specs.region_config.specs.{Setups.decode_end, Setups.unit, Soundness.IsSound, Soundness.IsSoundRegion, Soundness.IsSoundSeat}
+use Rattle.extent_list.specs.media_map.specs.region_config.specs.declared.region_spec.RegionSpec.{RegionSpec}
 use Rattle.device_rules.proofs.Homes.{base_same, blind, first_same, regions_same, supported_some, supported_whole}
 
 -- which sizes a region supports does not hang on its block

@@ -1,25 +1,17 @@
 -- The status of a granule after an offer is answered and what was accepted is taken.
 use Rattle.std.proofs.Common.{◌≡◌, ◌≢◌, ℕ, ◌<◌, Bool, true, false, ◌&&◌, ◌||◌, List, [], ◌∷◌, ◌++◌, drop, inl, inr, refl, sym, ap, subst, ◌∙◌}
-use Rattle.std.specs.Prelude.{◌==◌, if◌then◌else◌}
-use Rattle.std.specs.List.{list_all, list_any}
-use Rattle.std.proofs.lemmas.Bool.{cases_eq, eq-eqb, ne_eqb}
-use Rattle.cci_codec.specs.dcd_base.specs.declared.ids.HostId.{HostId}
-use Rattle.cci_codec.specs.dcd_base.specs.declared.capacity.Extent.{Extent}
-use Rattle.extent_list.specs.media_map.specs.region_config.specs.Configurations.{Configuration}
+use Rattle.std.{specs.Prelude.◌==◌, specs.Prelude.if◌then◌else◌, specs.List.list_all, specs.List.list_any, proofs.lemmas.Bool.cases_eq, proofs.lemmas.Bool.eq-eqb, proofs.lemmas.Bool.ne_eqb}
+use Rattle.cci_codec.specs.dcd_base.specs.declared.{ids.HostId.HostId, capacity.Extent.Extent}
+use Rattle.extent_list.{proofs.EachTag.or_false, specs.media_map.specs.Places.run_of, specs.media_map.specs.region_config.specs.Configurations.Configuration}
 use Rattle.extent_list.specs.media_map.specs.region_config.specs.Granules.{hosts_of, region_of, region_spec}
-use Rattle.extent_list.specs.media_map.specs.Places.{run_of}
 use Rattle.offer_core.specs.Offerings.{oldest_of}
-use Rattle.journal_core.specs.declared.outcome.Effect.{Effect}
-use Rattle.journal_core.specs.Holders.{holding_after, holds, is_soiled, is_taken, taking_after}
 use Rattle.journal_core.proofs.HoldingSteps.{holds-append, is_taken-append}
-use Rattle.device_rules.specs.Hosts.{offers_after, offers_of}
-use Rattle.device_rules.specs.Tags.{Held, Tagged, Dirty, Free, is_held, is_offered, is_tagged, status}
-use Rattle.device_rules.proofs.HostSearches.{any_gains, any_none, or_true}
-use Rattle.extent_list.proofs.EachTag.{or_false}
-use Rattle.device_rules.proofs.Leaving.{after_front, both_pass, is_quiet, leaves_offers, leaves_soil, leaves_tags, holding-over, map_passes, offers-over, quiet_holders, quiet_offers, quiet_soil, quiet_tags, quiet_taking, taking-over}
-use Rattle.device_rules.proofs.RunEffects.{in_extents, takes, holding-takes, taking-takes}
+use Rattle.journal_core.specs.{Holders.holding_after, Holders.holds, Holders.is_soiled, Holders.is_taken, Holders.taking_after, declared.outcome.Effect.Effect}
+use Rattle.device_rules.proofs.{HostSearches.any_gains, HostSearches.any_none, HostSearches.or_true, RunEffects.in_extents, RunEffects.takes, RunEffects.holding-takes, RunEffects.taking-takes}
 use Rattle.device_rules.proofs.StatusParts.{offers_of-append, held_status, left_status, status_is, tagged_status, soiled-left, tagged-left}
-use Rattle.device_rules.specs.GranuleStates.{is_granule_offered}
+use Rattle.device_rules.specs.{GranuleStates.is_granule_offered, Hosts.offers_after, Hosts.offers_of}
+use Rattle.device_rules.specs.Tags.{Held, Tagged, Dirty, Free, is_held, is_offered, is_tagged, status}
+use Rattle.device_rules.proofs.Leaving.{after_front, both_pass, is_quiet, leaves_offers, leaves_soil, leaves_tags, holding-over, map_passes, offers-over, quiet_holders, quiet_offers, quiet_soil, quiet_tags, quiet_taking, taking-over}
 
 -- an answer, and what it takes, behind effects that change no status
 abbrev pub answering : Configuration → List Effect → HostId → List Extent → List Extent → List Effect

@@ -1,31 +1,16 @@
 -- What the holdings of a legal journal say of a granule's status when an offer is answered, extents leave or a tag ends.
 use Rattle.std.proofs.Common.{◌≡◌, ◌≢◌, ℕ, ◌+◌, ◌<◌, Bool, true, false, ◌&&◌, ◌||◌, List, [], ◌∷◌, ◌++◌, drop, length, inl, inr, refl, sym, ap, ◌∙◌, arith}
+use Rattle.std.{proofs.lemmas.Bool.cases_Bool, proofs.lemmas.Bool.false≢true, proofs.lemmas.List.length-append, proofs.lemmas.List.Elements.filter-append, specs.List.list_all, specs.List.list_any}
 use Rattle.std.specs.Prelude.{filter, flat_map, if◌then◌else◌}
-use Rattle.std.specs.List.{list_all, list_any}
-use Rattle.std.proofs.lemmas.Bool.{cases_Bool, false≢true}
-use Rattle.std.proofs.lemmas.List.{length-append}
-use Rattle.std.proofs.lemmas.List.Elements.{filter-append}
-use Rattle.cci_codec.specs.dcd_base.specs.declared.ids.HostId.{HostId}
-use Rattle.cci_codec.specs.dcd_base.specs.declared.capacity.Extent.{Extent}
-use Rattle.cci_codec.specs.dcd_base.specs.Words.{has_granule}
-use Rattle.extent_list.specs.media_map.specs.region_config.specs.Configurations.{Configuration}
+use Rattle.cci_codec.specs.dcd_base.specs.{declared.ids.HostId.HostId, declared.capacity.Extent.Extent, Words.has_granule}
+use Rattle.extent_list.specs.media_map.specs.{Places.run_of, region_config.specs.Configurations.Configuration}
 use Rattle.extent_list.specs.media_map.specs.region_config.specs.Granules.{hosts_of, region_of, region_spec}
-use Rattle.extent_list.specs.media_map.specs.Places.{run_of}
 use Rattle.offer_core.specs.Offerings.{oldest_of}
-use Rattle.journal_core.specs.declared.entries.Entry.{Entry}
-use Rattle.journal_core.specs.declared.outcome.Effect.{Effect}
-use Rattle.journal_core.specs.Entries.{effects}
-use Rattle.journal_core.specs.Holders.{holds, is_soiled, is_taken}
-use Rattle.device_rules.specs.Hosts.{offers_of}
-use Rattle.device_rules.specs.Invariants.{Holdings, claims_of}
+use Rattle.journal_core.specs.{declared.entries.Entry.Entry, declared.outcome.Effect.Effect, Entries.effects, Holders.holds, Holders.is_soiled, Holders.is_taken}
+use Rattle.device_rules.proofs.{HoldersApart.alone_holds, HoldersApart.clear_holds, HoldersApart.parts, HoldersApart.some_claim, HoldersApart.some_offer, HostSearches.any_none, Leaving.is_quiet}
+use Rattle.device_rules.proofs.{RunEffects.in_extents, StatusAnswers.answering, StatusAnswers.status-declined, StatusLeaves.removing, StatusLeaves.status-removed}
+use Rattle.device_rules.specs.{GranuleStates.is_granule_offered, Hosts.offers_of, Invariants.Holdings, Invariants.claims_of}
 use Rattle.device_rules.specs.Tags.{Dirty, Free, is_held, is_offered, is_tagged, status}
-use Rattle.device_rules.proofs.HostSearches.{any_none}
-use Rattle.device_rules.proofs.HoldersApart.{alone_holds, clear_holds, parts, some_claim, some_offer}
-use Rattle.device_rules.proofs.Leaving.{is_quiet}
-use Rattle.device_rules.proofs.RunEffects.{in_extents}
-use Rattle.device_rules.proofs.StatusAnswers.{answering, status-declined}
-use Rattle.device_rules.proofs.StatusLeaves.{removing, status-removed}
-use Rattle.device_rules.specs.GranuleStates.{is_granule_offered}
 
 -- an offer is among all
 oldest_offered : (has : List Extent → Bool) (offers : List (List Extent)) → has [] ≡ false → has (oldest_of offers) ≡ true → list_any has offers ≡ true

@@ -1,22 +1,14 @@
 -- The status of a granule after a host gives extents back or loses them by force.
 use Rattle.std.proofs.Common.{◌≡◌, ℕ, Bool, true, false, ◌&&◌, ◌||◌, not, List, ◌++◌, inl, inr, refl, ap, ◌∙◌}
-use Rattle.std.specs.Prelude.{◌==◌, if◌then◌else◌}
-use Rattle.std.specs.List.{list_all, list_any}
-use Rattle.std.proofs.lemmas.Bool.{cases_Bool, eq-eqb}
-use Rattle.cci_codec.specs.dcd_base.specs.declared.ids.HostId.{HostId}
-use Rattle.cci_codec.specs.dcd_base.specs.declared.capacity.Extent.{Extent}
-use Rattle.extent_list.specs.media_map.specs.region_config.specs.Configurations.{Configuration}
-use Rattle.extent_list.specs.media_map.specs.region_config.specs.Granules.{hosts_of, region_of, region_spec}
-use Rattle.journal_core.specs.declared.outcome.Effect.{Effect}
-use Rattle.journal_core.specs.Holders.{holding_after, holds, is_soiled, is_taken, soil_after}
+use Rattle.std.{specs.Prelude.◌==◌, specs.Prelude.if◌then◌else◌, specs.List.list_all, specs.List.list_any, proofs.lemmas.Bool.cases_Bool, proofs.lemmas.Bool.eq-eqb}
+use Rattle.cci_codec.specs.dcd_base.specs.declared.{ids.HostId.HostId, capacity.Extent.Extent}
+use Rattle.extent_list.specs.media_map.specs.region_config.specs.{Configurations.Configuration, Granules.hosts_of, Granules.region_of, Granules.region_spec}
 use Rattle.journal_core.proofs.HoldingSteps.{holds-append, is_soiled-append}
-use Rattle.device_rules.specs.ReleaseOutcomes.{removals}
-use Rattle.device_rules.specs.Tags.{Tagged, Dirty, Free, is_held, is_offered, is_tagged, status}
-use Rattle.device_rules.proofs.EffectKinds.{removals_pass}
-use Rattle.device_rules.proofs.HostSearches.{any_none}
-use Rattle.device_rules.proofs.Leaving.{after_front, both_pass, is_quiet, leaves_offers, leaves_tags, leaves_taking, holding-over, quiet_holders, quiet_offers, quiet_soil, quiet_tags, quiet_taking, soil-over}
-use Rattle.device_rules.proofs.RunEffects.{in_extents, holding-removals, soil-removals}
+use Rattle.journal_core.specs.{Holders.holding_after, Holders.holds, Holders.is_soiled, Holders.is_taken, Holders.soil_after, declared.outcome.Effect.Effect}
+use Rattle.device_rules.proofs.{EffectKinds.removals_pass, HostSearches.any_none, RunEffects.in_extents, RunEffects.holding-removals, RunEffects.soil-removals}
 use Rattle.device_rules.proofs.StatusParts.{left_status, status_is, tagged_status, offered-left, tagged-left, taken-left}
+use Rattle.device_rules.specs.{ReleaseOutcomes.removals, Tags.Tagged, Tags.Dirty, Tags.Free, Tags.is_held, Tags.is_offered, Tags.is_tagged, Tags.status}
+use Rattle.device_rules.proofs.Leaving.{after_front, both_pass, is_quiet, leaves_offers, leaves_tags, leaves_taking, holding-over, quiet_holders, quiet_offers, quiet_soil, quiet_tags, quiet_taking, soil-over}
 
 -- a removal, cleaning or not, behind effects that change no status; where it does not clean it is also what the host gives back
 abbrev pub removing : Configuration → List Effect → HostId → Bool → List Extent → List Effect

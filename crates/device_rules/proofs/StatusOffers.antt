@@ -1,28 +1,16 @@
 -- The status of a granule after an offer.
 use Rattle.std.proofs.Common.{◌≡◌, ℕ, ◌<◌, Bool, true, false, ◌&&◌, ◌||◌, not, List, [], ◌∷◌, ◌++◌, Some, inl, inr, refl, sym, ap, ◌∙◌}
+use Rattle.std.{proofs.lemmas.Bool.cases_Bool, proofs.lemmas.List.Folds.list_any-append, proofs.lemmas.List.Sums.fold_push, specs.List.list_any}
 use Rattle.std.specs.Prelude.{◌==◌, None, if◌then◌else◌}
-use Rattle.std.specs.List.{list_any}
-use Rattle.std.proofs.lemmas.Bool.{cases_Bool}
-use Rattle.std.proofs.lemmas.List.Folds.{list_any-append}
-use Rattle.std.proofs.lemmas.List.Sums.{fold_push}
-use Rattle.cci_codec.specs.dcd_base.specs.declared.ids.HostId.{HostId}
-use Rattle.cci_codec.specs.dcd_base.specs.declared.capacity.Tag.{Tag}
-use Rattle.cci_codec.specs.dcd_base.specs.declared.capacity.Extent.{Extent}
-use Rattle.cci_codec.specs.dcd_base.specs.Words.{has_in_runs, has_tag, same_tag}
-use Rattle.extent_list.specs.ExtentLists.{has_extent_of}
-use Rattle.extent_list.specs.media_map.specs.region_config.specs.Configurations.{Configuration}
+use Rattle.cci_codec.specs.dcd_base.specs.{declared.ids.HostId.HostId, declared.capacity.Tag.Tag, declared.capacity.Extent.Extent, Words.has_in_runs, Words.has_tag, Words.same_tag}
+use Rattle.extent_list.{proofs.EachTag.or_false, specs.ExtentLists.has_extent_of, specs.media_map.specs.Places.region_at, specs.media_map.specs.region_config.specs.Configurations.Configuration}
 use Rattle.extent_list.specs.media_map.specs.region_config.specs.Granules.{hosts_of, region_of, region_spec}
-use Rattle.extent_list.specs.media_map.specs.Places.{region_at}
-use Rattle.journal_core.specs.declared.outcome.Effect.{Effect}
-use Rattle.journal_core.specs.Holders.{is_soiled, is_taken}
+use Rattle.journal_core.specs.{declared.outcome.Effect.Effect, Holders.is_soiled, Holders.is_taken}
+use Rattle.device_rules.proofs.{HostSearches.any_gains, HostSearches.or_true, RunEffects.in_extents}
+use Rattle.device_rules.proofs.StatusParts.{offered_status, status_is, tagged_status, held-left, soiled-left, taken-left}
+use Rattle.device_rules.{proofs.TagSearches.any_agree, proofs.TagSearches.any_of_tag, proofs.TagSearches.same_tag-self, specs.GranuleStates.is_granule_offered, specs.GranuleStates.stands_for}
 use Rattle.device_rules.specs.Hosts.{offers_after, offers_of}
 use Rattle.device_rules.specs.Tags.{Offered, Tagged, is_held, is_offered, is_tagged, last_offer, last_offer_after, open_tags, status, tag_runs, tags_after}
-use Rattle.device_rules.proofs.HostSearches.{any_gains, or_true}
-use Rattle.extent_list.proofs.EachTag.{or_false}
-use Rattle.device_rules.proofs.RunEffects.{in_extents}
-use Rattle.device_rules.proofs.StatusParts.{offered_status, status_is, tagged_status, held-left, soiled-left, taken-left}
-use Rattle.device_rules.specs.GranuleStates.{is_granule_offered, stands_for}
-use Rattle.device_rules.proofs.TagSearches.{any_agree, any_of_tag, same_tag-self}
 
 -- one offer more
 one_more : (same : Bool) (has : List Extent → Bool) (offers : List (List Extent)) (xs : List Extent) →

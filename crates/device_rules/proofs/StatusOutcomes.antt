@@ -1,18 +1,10 @@
 -- Records, and the end of a held list, change no status.
-use Rattle.std.proofs.Common.{◌≡◌, true, List, refl}
-use Rattle.std.specs.Prelude.{flat_map}
-use Rattle.std.specs.List.{list_all}
-use Rattle.cci_codec.specs.dcd_base.specs.declared.capacity.Extent.{Extent}
-use Rattle.cci_codec.specs.dcd_base.specs.declared.ids.HostId.{HostId}
-use Rattle.cci_codec.specs.dcd_base.specs.declared.steps.LogId.{LogId}
+use Rattle.std.{proofs.Common.◌≡◌, proofs.Common.true, proofs.Common.List, proofs.Common.refl, specs.Prelude.flat_map, specs.List.list_all}
+use Rattle.cci_codec.specs.dcd_base.specs.declared.{capacity.Extent.Extent, ids.HostId.HostId, steps.LogId.LogId}
 use Rattle.event_records.specs.declared.events.Event.{Event}
-use Rattle.journal_core.specs.declared.outcome.Effect.{Effect}
-use Rattle.journal_core.specs.declared.outcome.HeldKind.{HeldKind}
-use Rattle.device_rules.specs.Logs.{log_of}
-use Rattle.device_rules.specs.Outcomes.{entered_all}
-use Rattle.device_rules.specs.ResponseOutcomes.{unhold}
-use Rattle.device_rules.proofs.EffectKinds.{PassHeld, PassRecords, any_log, tells_any, told_passes, unhold_passes}
-use Rattle.device_rules.proofs.Leaving.{is_quiet}
+use Rattle.journal_core.specs.declared.outcome.{Effect.Effect, HeldKind.HeldKind}
+use Rattle.device_rules.proofs.{EffectKinds.PassHeld, EffectKinds.PassRecords, EffectKinds.any_log, EffectKinds.tells_any, EffectKinds.told_passes, EffectKinds.unhold_passes, Leaving.is_quiet}
+use Rattle.device_rules.specs.{Logs.log_of, Outcomes.entered_all, ResponseOutcomes.unhold}
 
 -- ---- records change no status
 

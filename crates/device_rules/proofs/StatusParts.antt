@@ -1,18 +1,11 @@
 -- The tests that make the status of a granule, after more effects.
 use Rattle.std.proofs.Common.{◌≡◌, ℕ, Bool, true, false, ◌&&◌, ◌||◌, not, List, [], ◌++◌, refl, ◌∙◌}
-use Rattle.std.specs.Prelude.{fold, map, None, if◌then◌else◌}
-use Rattle.std.specs.List.{list_all, list_any}
-use Rattle.std.proofs.lemmas.List.Sums.{fold-append}
-use Rattle.cci_codec.specs.dcd_base.specs.declared.ids.HostId.{HostId}
-use Rattle.cci_codec.specs.dcd_base.specs.declared.capacity.Tag.{Tag}
-use Rattle.cci_codec.specs.dcd_base.specs.Words.{has_in_runs}
-use Rattle.extent_list.specs.media_map.specs.region_config.specs.Configurations.{Configuration}
-use Rattle.extent_list.specs.media_map.specs.region_config.specs.declared.region_spec.RegionSpec.{RegionSpec}
-use Rattle.extent_list.specs.media_map.specs.region_config.specs.Granules.{hosts_of, region_of, region_spec}
-use Rattle.extent_list.specs.media_map.specs.Places.{run_of}
-use Rattle.journal_core.specs.declared.outcome.Effect.{Effect}
-use Rattle.journal_core.specs.Holders.{holding_after, holds, is_soiled, is_taken}
+use Rattle.std.{specs.Prelude.fold, specs.Prelude.map, specs.Prelude.None, specs.Prelude.if◌then◌else◌, specs.List.list_all, specs.List.list_any, proofs.lemmas.List.Sums.fold-append}
+use Rattle.cci_codec.specs.dcd_base.specs.{declared.ids.HostId.HostId, declared.capacity.Tag.Tag, Words.has_in_runs}
+use Rattle.extent_list.specs.media_map.specs.{Places.run_of, region_config.specs.Configurations.Configuration}
+use Rattle.extent_list.specs.media_map.specs.region_config.specs.{Granules.hosts_of, Granules.region_of, Granules.region_spec, declared.region_spec.RegionSpec.RegionSpec}
 use Rattle.journal_core.proofs.HoldingSteps.{holds-append, is_soiled-append, is_taken-append}
+use Rattle.journal_core.specs.{Holders.holding_after, Holders.holds, Holders.is_soiled, Holders.is_taken, declared.outcome.Effect.Effect}
 use Rattle.device_rules.specs.Hosts.{offers_after, offers_of}
 use Rattle.device_rules.specs.Tags.{Status, Held, Offered, Tagged, Dirty, Free, is_held, is_offered, is_tagged, last_offer, last_offer_after, open_tags, status, tag_runs, tags_after}
 use Rattle.device_rules.proofs.Leaving.{is_quiet, leaves_holders, leaves_offers, leaves_soil, leaves_tags, leaves_taking, holding-over, last_offer-over, offers-over, quiet_holders, quiet_offers, quiet_soil, quiet_tags, quiet_taking, soil-over, tags-over, taking-over}

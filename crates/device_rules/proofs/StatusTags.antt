@@ -1,22 +1,14 @@
 -- The status of a granule after tags end.
 use Rattle.std.proofs.Common.{◌≡◌, ℕ, ◌≤◌, true, false, ◌&&◌, ◌||◌, not, List, [], ◌∷◌, ◌++◌, Option, refl, sym, subst, ◌∙◌}
-use Rattle.std.specs.Prelude.{fold, map, filter, if◌then◌else◌}
-use Rattle.std.specs.List.{list_any}
-use Rattle.std.proofs.lemmas.List.Sums.{length-filter}
-use Rattle.cci_codec.specs.dcd_base.specs.declared.ids.HostId.{HostId}
-use Rattle.cci_codec.specs.dcd_base.specs.declared.capacity.Tag.{Tag}
-use Rattle.cci_codec.specs.dcd_base.specs.declared.capacity.Extent.{Extent}
-use Rattle.cci_codec.specs.dcd_base.specs.Words.{has_in_runs, has_tag, same_tag}
-use Rattle.extent_list.specs.media_map.specs.region_config.specs.Configurations.{Configuration}
-use Rattle.extent_list.specs.media_map.specs.region_config.specs.Granules.{region_of, region_spec}
-use Rattle.journal_core.specs.declared.outcome.Effect.{Effect}
-use Rattle.journal_core.specs.Holders.{is_soiled, is_taken}
-use Rattle.device_rules.specs.Invariants.{tags_on}
-use Rattle.device_rules.specs.Tags.{Dirty, Free, is_held, is_offered, is_tagged, last_offer, last_offer_after, open_tags, status, tag_runs, tags_after}
-use Rattle.device_rules.specs.GranuleStates.{stands_for}
+use Rattle.std.{specs.Prelude.fold, specs.Prelude.map, specs.Prelude.filter, specs.Prelude.if◌then◌else◌, specs.List.list_any, proofs.lemmas.List.Sums.length-filter}
+use Rattle.cci_codec.specs.dcd_base.specs.{declared.ids.HostId.HostId, declared.capacity.Tag.Tag, declared.capacity.Extent.Extent, Words.has_in_runs, Words.has_tag, Words.same_tag}
+use Rattle.extent_list.specs.media_map.specs.region_config.specs.{Configurations.Configuration, Granules.region_of, Granules.region_spec}
+use Rattle.journal_core.specs.{declared.outcome.Effect.Effect, Holders.is_soiled, Holders.is_taken}
 use Rattle.device_rules.proofs.Leaving.{leaves_holders, leaves_offers, leaves_soil, leaves_taking, map_passes}
 use Rattle.device_rules.proofs.StatusParts.{status_is, untagged_status, held-left, last_offer-append, offered-left, open_tags-append, soiled-left, taken-left}
-use Rattle.device_rules.proofs.TagSearches.{any_gone, any_kept, filter_nothing, filter_twice}
+use Rattle.device_rules.{proofs.TagSearches.any_gone, proofs.TagSearches.any_kept, proofs.TagSearches.filter_nothing, proofs.TagSearches.filter_twice, specs.GranuleStates.stands_for}
+use Rattle.device_rules.specs.Invariants.{tags_on}
+use Rattle.device_rules.specs.Tags.{Dirty, Free, is_held, is_offered, is_tagged, last_offer, last_offer_after, open_tags, status, tag_runs, tags_after}
 
 -- these tags end
 abbrev pub ends : List Tag → List Effect

@@ -1,22 +1,16 @@
 -- The status of a granule after a scrub.
 use Rattle.std.proofs.Common.{◌≡◌, ℕ, Bool, true, false, ◌&&◌, ◌||◌, not, List, ◌++◌, inl, inr, refl, sym, ap, ◌∙◌}
-use Rattle.std.specs.Prelude.{map, ◌==◌, if◌then◌else◌}
-use Rattle.std.specs.List.{list_any}
-use Rattle.std.proofs.lemmas.Bool.{cases_Bool}
+use Rattle.std.{specs.Prelude.map, specs.Prelude.◌==◌, specs.Prelude.if◌then◌else◌, specs.List.list_any, proofs.lemmas.Bool.cases_Bool}
 use Rattle.granule_map.specs.Choices.{joined}
-use Rattle.device_rules.specs.Answers.{scrubbed, zeroes}
-use Rattle.extent_list.specs.media_map.specs.region_config.specs.Granules.{same_region, region_of, region_spec}
-use Rattle.device_rules.proofs.JoinedRuns.{any_taken, joined_has, passes_there}
-use Rattle.cci_codec.specs.dcd_base.specs.Words.{has_in_runs}
-use Rattle.extent_list.specs.media_map.specs.region_config.specs.Configurations.{Configuration}
-use Rattle.extent_list.specs.media_map.specs.region_config.specs.declared.region_spec.RegionSpec.{RegionSpec}
-use Rattle.journal_core.specs.declared.outcome.Effect.{Effect}
-use Rattle.journal_core.specs.Holders.{is_soiled, is_taken}
-use Rattle.journal_core.proofs.HoldingSteps.{is_soiled-append, is_taken-append}
-use Rattle.device_rules.specs.Tags.{Held, Offered, Tagged, Dirty, Free, dirty_granules, all_granules, is_dirty, is_held, is_offered, is_tagged, status}
-use Rattle.device_rules.proofs.Leaving.{leaves_holders, leaves_offers, leaves_tags, map_passes}
+use Rattle.device_rules.proofs.{JoinedRuns.any_taken, JoinedRuns.joined_has, JoinedRuns.passes_there, Leaving.leaves_holders, Leaving.leaves_offers, Leaving.leaves_tags, Leaving.map_passes}
 use Rattle.device_rules.proofs.RunEffects.{run_from, zeros, soil-zeros, taking-zeros}
 use Rattle.device_rules.proofs.StatusParts.{status_by, status_is, held-left, offered-left, tagged-left}
+use Rattle.device_rules.specs.Answers.{scrubbed, zeroes}
+use Rattle.extent_list.specs.media_map.specs.region_config.specs.{Configurations.Configuration, Granules.same_region, Granules.region_of, Granules.region_spec}
+use Rattle.extent_list.specs.media_map.specs.region_config.specs.declared.region_spec.RegionSpec.{RegionSpec}
+use Rattle.cci_codec.specs.dcd_base.specs.Words.{has_in_runs}
+use Rattle.journal_core.{specs.declared.outcome.Effect.Effect, specs.Holders.is_soiled, specs.Holders.is_taken, proofs.HoldingSteps.is_soiled-append, proofs.HoldingSteps.is_taken-append}
+use Rattle.device_rules.specs.Tags.{Held, Offered, Tagged, Dirty, Free, dirty_granules, all_granules, is_dirty, is_held, is_offered, is_tagged, status}
 
 no_longer : (b : Bool) → (b && false) ≡ false
 no_longer true = refl

@@ -1,22 +1,13 @@
 -- What the entries of a table say of their tags, and the entry that is found.
 use Rattle.std.proofs.Common.{◌≡◌, Bool, true, ◌&&◌, ◌||◌, not, ◌==◌, List, [], ◌∷◌, map, refl, sym, ap, ◌∙◌, inl, inr}
-use Rattle.std.specs.List.{AllByRecursion, list_any}
-use Rattle.std.proofs.lemmas.Bool.{and_parts, cases_Bool, or_left, or_right}
-use Rattle.cci_codec.specs.dcd_base.specs.Words.{has_tag, is_zero_tag, same_tag}
-use Rattle.cci_codec.specs.dcd_base.specs.declared.capacity.Tag.{Tag}
-use Rattle.cci_codec.specs.dcd_base.specs.declared.ids.HostId.{HostId}
+use Rattle.std.{specs.List.AllByRecursion, specs.List.list_any, proofs.lemmas.Bool.and_parts, proofs.lemmas.Bool.cases_Bool, proofs.lemmas.Bool.or_left, proofs.lemmas.Bool.or_right}
+use Rattle.cci_codec.specs.dcd_base.specs.{Words.has_tag, Words.is_zero_tag, Words.same_tag, declared.capacity.Tag.Tag, declared.ids.HostId.HostId}
 use Rattle.journal_core.specs.declared.outcome.Effect.{Effect}
-use Rattle.extent_list.specs.media_map.specs.region_config.specs.Configurations.{Configuration}
-use Rattle.extent_list.specs.media_map.specs.region_config.specs.Granules.{hosts_of}
-use Rattle.tag_refs.specs.Tables.{has_entry, is_used, passes}
-use Rattle.tag_refs.specs.declared.entries.TagEntry.{TagEntry}
+use Rattle.extent_list.specs.media_map.specs.region_config.specs.{Configurations.Configuration, Granules.hosts_of}
+use Rattle.tag_refs.specs.{Tables.has_entry, Tables.is_used, Tables.passes, declared.entries.TagEntry.TagEntry}
+use Rattle.device_rules.proofs.{HostBits.host_bits-same, HostBits.host_bits-some, HostSearches.any_or, TagSteps.same_tag-is, TagSteps.same_tag-self}
+use Rattle.device_rules.specs.{Pictures.picture_of, Standing.Sound, TagTable.IsEntry, TagTable.IsTable}
 use Rattle.device_rules.specs.Tags.{is_accepted_by, is_offered_to, is_referenced, last_offer, open_tags, tag_region, tag_runs, is_live as tag_lives}
-use Rattle.device_rules.specs.Pictures.{picture_of}
-use Rattle.device_rules.specs.Standing.{Sound}
-use Rattle.device_rules.proofs.TagSteps.{same_tag-is, same_tag-self}
-use Rattle.device_rules.proofs.HostSearches.{any_or}
-use Rattle.device_rules.specs.TagTable.{IsEntry, IsTable}
-use Rattle.device_rules.proofs.HostBits.{host_bits-same, host_bits-some}
 
 abbrev pub tags_in : List TagEntry → List Tag
 tags_in entries = map (λ (e : TagEntry). e.tag) entries

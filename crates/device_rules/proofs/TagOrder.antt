@@ -1,26 +1,13 @@
 -- The order of the open tags, over the effects of a step.
 use Rattle.std.proofs.Common.{◌≡◌, ℕ, zero, suc, ◌<◌, Bool, true, false, ◌&&◌, not, List, [], ◌∷◌, ◌++◌, length, get_or, refl, sym, ap, subst, ◌∙◌, arith, append_assoc}
-use Rattle.std.specs.Prelude.{AllPairs, fold, if◌then◌else◌}
-use Rattle.std.specs.List.{list_all}
-use Rattle.std.proofs.lemmas.Bool.{and_parts, false≢true, or_left, or_right}
-use Rattle.std.proofs.lemmas.List.Folds.{list_any-append}
-use Rattle.std.proofs.lemmas.List.Kept.{AllPairs-filter}
-use Rattle.std.proofs.lemmas.List.Quantifiers.{all_pairs_push}
-use Rattle.std.proofs.lemmas.List.Sums.{fold-append}
-use Rattle.cci_codec.specs.dcd_base.specs.declared.capacity.Extent.{Extent}
-use Rattle.cci_codec.specs.dcd_base.specs.declared.capacity.Tag.{Tag}
-use Rattle.cci_codec.specs.dcd_base.specs.declared.ids.HostId.{HostId}
-use Rattle.cci_codec.specs.dcd_base.specs.Words.{has_tag, same_tag}
-use Rattle.extent_list.specs.media_map.specs.region_config.specs.Configurations.{Configuration}
-use Rattle.extent_list.specs.media_map.specs.region_config.specs.Granules.{region_spec}
-use Rattle.extent_list.specs.media_map.specs.Places.{region_at}
+use Rattle.std.proofs.lemmas.{Bool.and_parts, Bool.false≢true, Bool.or_left, Bool.or_right, List.Folds.list_any-append, List.Kept.AllPairs-filter, List.Quantifiers.all_pairs_push}
+use Rattle.std.{proofs.lemmas.List.Sums.fold-append, specs.List.list_all, specs.Prelude.AllPairs, specs.Prelude.fold, specs.Prelude.if◌then◌else◌}
+use Rattle.cci_codec.specs.dcd_base.specs.{declared.capacity.Extent.Extent, declared.capacity.Tag.Tag, declared.ids.HostId.HostId, Words.has_tag, Words.same_tag}
+use Rattle.extent_list.specs.media_map.specs.{region_config.specs.Configurations.Configuration, region_config.specs.Granules.region_spec, Places.region_at}
 use Rattle.journal_core.specs.declared.outcome.Effect.{Effect}
-use Rattle.device_rules.specs.Invariants.{live_since}
-use Rattle.device_rules.specs.Tags.{is_live_shareable, open_tags, tags_after}
-use Rattle.device_rules.proofs.TagSteps.{has_tag-filter, same_tag-self}
-use Rattle.device_rules.proofs.Leaving.{leaves_tags, tags-over}
-use Rattle.device_rules.proofs.Fading.{fades, is_single, lasted, lasts, lived}
-use Rattle.device_rules.proofs.LiveSince.{since_before, since_now, since_past}
+use Rattle.device_rules.proofs.{Fading.fades, Fading.is_single, Fading.lasted, Fading.lasts, Fading.lived, Leaving.leaves_tags, Leaving.tags-over}
+use Rattle.device_rules.proofs.{LiveSince.since_before, LiveSince.since_now, LiveSince.since_past, TagSteps.has_tag-filter, TagSteps.same_tag-self}
+use Rattle.device_rules.specs.{Invariants.live_since, Tags.is_live_shareable, Tags.open_tags, Tags.tags_after}
 
 -- the open tags are the live ones
 abbrev pub OpenLive : Configuration → List Effect → Type 0

@@ -1,20 +1,12 @@
 -- What commands that change no list of extents make of the views of all hosts.
 use Rattle.std.proofs.Common.{◌≡◌, ℕ, ◌+◌, Bool, true, false, ◌&&◌, ◌||◌, List, [], ◌∷◌, refl, ap, ◌∙◌}
+use Rattle.std.{proofs.lemmas.Bool.and_parts, proofs.lemmas.Bool.eq-eqb, proofs.lemmas.Bool.false≢true, specs.List.list_all, specs.List.list_any}
 use Rattle.std.specs.Prelude.{fold, ◌==◌, if◌then◌else◌}
-use Rattle.std.specs.List.{list_all, list_any}
-use Rattle.std.proofs.lemmas.Bool.{and_parts, eq-eqb, false≢true}
-use Rattle.cci_codec.specs.dcd_base.specs.declared.capacity.Extent.{Extent}
-use Rattle.cci_codec.specs.dcd_base.specs.declared.ids.HostId.{HostId}
-use Rattle.cci_codec.specs.dcd_base.specs.declared.steps.LogId.{LogId}
-use Rattle.journal_core.specs.declared.outcome.Effect.{Effect}
-use Rattle.journal_core.specs.declared.outcome.HeldKind.{HeldKind}
+use Rattle.cci_codec.specs.dcd_base.specs.declared.{capacity.Extent.Extent, ids.HostId.HostId, steps.LogId.LogId}
+use Rattle.journal_core.specs.declared.outcome.{Effect.Effect, HeldKind.HeldKind}
 use Rattle.extent_list.specs.media_map.specs.region_config.specs.Configurations.{Configuration}
-use Rattle.device_rules.specs.Answers.{dropped}
-use Rattle.device_rules.specs.Hosts.{accepted_after, block_after, held_after, moves, offers_after}
-use Rattle.device_rules.specs.Logs.{log_after}
-use Rattle.device_rules.specs.ResponseOutcomes.{unhold}
-use Rattle.device_rules.specs.Views.{View, view_after}
-use Rattle.device_rules.proofs.Leaving.{over-leaving}
+use Rattle.device_rules.{proofs.Leaving.over-leaving, specs.Answers.dropped, specs.Hosts.accepted_after, specs.Hosts.block_after, specs.Hosts.held_after, specs.Hosts.moves, specs.Hosts.offers_after}
+use Rattle.device_rules.specs.{Logs.log_after, ResponseOutcomes.unhold, Views.View, Views.view_after}
 
 -- ---- records of a log, and their clearing, change a view in its log alone
 

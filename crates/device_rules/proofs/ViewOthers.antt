@@ -1,32 +1,16 @@
 -- What the commands of one host, and the manager's for it, make of what the other hosts see: nothing.
 use Rattle.std.proofs.Common.{◌≡◌, ◌≢◌, ℕ, true, ◌&&◌, not, List, [], ◌∷◌, ◌++◌, Option, None, Some, refl, sym, ap, subst, ◌∙◌}
-use Rattle.std.specs.Prelude.{◌==◌}
-use Rattle.std.specs.List.{list_all}
-use Rattle.std.specs.declared.result.Result.{Result}
+use Rattle.std.{proofs.lemmas.Bool.ne_eqb, specs.List.list_all, specs.Prelude.◌==◌, specs.declared.result.Result.Result}
 use Rattle.std.specs.declared.result.Result.TheVariants.{Ok, Err}
-use Rattle.std.proofs.lemmas.Bool.{ne_eqb}
-use Rattle.cci_codec.specs.dcd_base.specs.declared.capacity.Extent.{Extent}
-use Rattle.cci_codec.specs.dcd_base.specs.declared.capacity.Tag.{Tag}
-use Rattle.cci_codec.specs.dcd_base.specs.declared.ids.HostId.{HostId}
-use Rattle.cci_codec.specs.dcd_base.specs.declared.steps.Actor.{Actor}
-use Rattle.cci_codec.specs.dcd_base.specs.declared.steps.LogId.{LogId}
-use Rattle.extent_list.specs.dcd_codes.specs.declared.rules.Rule.{Rule}
-use Rattle.host_payloads.specs.HostPayloads.{host_request}
-use Rattle.cci_codec.specs.dcd_base.specs.declared.faults.PayloadFault.{PayloadFault as HostFault}
-use Rattle.host_payloads.specs.declared.requests.HostRequest.{HostRequest}
-use Rattle.journal_core.specs.Entries.{effects}
-use Rattle.journal_core.specs.declared.acts.Act.{Act}
-use Rattle.journal_core.specs.declared.entries.Entry.{Entry}
-use Rattle.journal_core.specs.declared.outcome.Effect.{Effect}
-use Rattle.extent_list.specs.media_map.specs.region_config.specs.Configurations.{Configuration}
-use Rattle.device_rules.specs.Adding.{add_outcome}
-use Rattle.device_rules.specs.Answers.{dropped, effects_with, host_outcome, host_result, host_rule, unless}
-use Rattle.device_rules.specs.Legal.{Meets, right_answer}
-use Rattle.device_rules.specs.Outcomes.{Outcome, effects_of}
-use Rattle.device_rules.specs.ReleaseOutcomes.{is_cleaning, is_forced, remove_outcome, removed}
-use Rattle.device_rules.specs.Views.{View, view_of}
+use Rattle.cci_codec.specs.dcd_base.specs.declared.{capacity.Extent.Extent, capacity.Tag.Tag, ids.HostId.HostId, steps.Actor.Actor, steps.LogId.LogId, faults.PayloadFault.PayloadFault as HostFault}
+use Rattle.extent_list.specs.{dcd_codes.specs.declared.rules.Rule.Rule, media_map.specs.region_config.specs.Configurations.Configuration}
+use Rattle.host_payloads.specs.{HostPayloads.host_request, declared.requests.HostRequest.HostRequest}
+use Rattle.journal_core.specs.{Entries.effects, declared.acts.Act.Act, declared.entries.Entry.Entry, declared.outcome.Effect.Effect}
 use Rattle.device_rules.proofs.EffectKinds.{PassHeld, PassLists, dropped_passes, host_passes, removals_pass}
-use Rattle.device_rules.proofs.ViewsLeft.{leaves_view, others_records, outcome-leaves, view_of-left}
+use Rattle.device_rules.{proofs.ViewsLeft.leaves_view, proofs.ViewsLeft.others_records, proofs.ViewsLeft.outcome-leaves, proofs.ViewsLeft.view_of-left, specs.Adding.add_outcome}
+use Rattle.device_rules.specs.{Answers.dropped, Answers.effects_with, Answers.host_outcome, Answers.host_result, Answers.host_rule, Answers.unless, Legal.Meets, Legal.right_answer}
+use Rattle.device_rules.specs.{Outcomes.Outcome, Outcomes.effects_of, ReleaseOutcomes.is_cleaning, ReleaseOutcomes.is_forced, ReleaseOutcomes.remove_outcome, ReleaseOutcomes.removed}
+use Rattle.device_rules.specs.Views.{View, view_of}
 
 -- ---- changes of one host leave the views of the others
 

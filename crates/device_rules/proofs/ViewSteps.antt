@@ -1,19 +1,11 @@
 -- A view after one more entry is one step from the view before it.
-use Rattle.std.proofs.Common.{◌≡◌, ◌+◌, List, [], ◌∷◌, ◌++◌}
+use Rattle.std.{proofs.Common.◌≡◌, proofs.Common.◌+◌, proofs.Common.List, proofs.Common.[], proofs.Common.◌∷◌, proofs.Common.◌++◌, proofs.lemmas.List.Sums.fold_push, specs.List.list_any}
 use Rattle.std.specs.Prelude.{if◌then◌else◌}
-use Rattle.std.specs.List.{list_any}
-use Rattle.std.proofs.lemmas.List.Sums.{fold_push}
-use Rattle.extent_list.specs.media_map.specs.region_config.specs.Configurations.{Configuration}
-use Rattle.cci_codec.specs.dcd_base.specs.declared.ids.HostId.{HostId}
-use Rattle.journal_core.specs.declared.entries.Entry.{Entry}
-use Rattle.journal_core.specs.declared.outcome.HeldKind.{HeldKind}
-use Rattle.cci_codec.specs.dcd_base.specs.declared.steps.LogId.{LogId}
-use Rattle.journal_core.proofs.JournalSteps.{over-push}
-use Rattle.device_rules.specs.Hosts.{offers_after, accepted_after, moves, held_after, block_after}
+use Rattle.extent_list.specs.media_map.specs.region_config.specs.{Configurations.Configuration, Granules.region_spec}
+use Rattle.cci_codec.specs.dcd_base.specs.declared.{ids.HostId.HostId, steps.LogId.LogId}
+use Rattle.journal_core.{specs.declared.entries.Entry.Entry, specs.declared.outcome.HeldKind.HeldKind, proofs.JournalSteps.over-push}
+use Rattle.device_rules.specs.{Hosts.offers_after, Hosts.accepted_after, Hosts.moves, Hosts.held_after, Hosts.block_after, Logs.log_after, Views.view_of, Views.view_after}
 use Rattle.event_log.specs.Logs.{empty_log}
-use Rattle.device_rules.specs.Logs.{log_after}
-use Rattle.extent_list.specs.media_map.specs.region_config.specs.Granules.{region_spec}
-use Rattle.device_rules.specs.Views.{view_of, view_after}
 
 -- the view after one more entry is one step from the view before it
 pub view_of-push : (c : Configuration) (h : HostId) (journal : List Entry) (e : Entry) → view_of c h (journal ++ e ∷ []) ≡ view_after c h (view_of c h journal) e.effects

@@ -1,26 +1,13 @@
 -- Effects that leave what one host sees.
 use Rattle.std.proofs.Common.{◌≡◌, ℕ, ◌+◌, Bool, true, false, ◌&&◌, ◌||◌, not, List, [], ◌∷◌, ◌++◌, drop, refl, ap, ◌∙◌}
-use Rattle.std.specs.Prelude.{◌==◌, if◌then◌else◌}
-use Rattle.std.specs.List.{list_all, list_any}
-use Rattle.std.proofs.lemmas.Bool.{and_parts, false≢true, not-true}
-use Rattle.cci_codec.specs.dcd_base.specs.Words.{is_empty}
-use Rattle.cci_codec.specs.dcd_base.specs.declared.capacity.Extent.{Extent}
-use Rattle.cci_codec.specs.dcd_base.specs.declared.ids.HostId.{HostId}
-use Rattle.cci_codec.specs.dcd_base.specs.declared.steps.LogId.{LogId}
+use Rattle.std.{specs.Prelude.◌==◌, specs.Prelude.if◌then◌else◌, specs.List.list_all, specs.List.list_any, proofs.lemmas.Bool.and_parts, proofs.lemmas.Bool.false≢true, proofs.lemmas.Bool.not-true}
+use Rattle.cci_codec.specs.dcd_base.specs.{Words.is_empty, declared.capacity.Extent.Extent, declared.ids.HostId.HostId, declared.steps.LogId.LogId}
 use Rattle.event_log.specs.Logs.{Log, cleared_of, missed_by, reset}
-use Rattle.journal_core.specs.declared.entries.Entry.{Entry}
-use Rattle.journal_core.specs.declared.outcome.Effect.{Effect}
-use Rattle.journal_core.specs.declared.outcome.HeldKind.{HeldKind}
-use Rattle.extent_list.specs.ExtentLists.{cut}
-use Rattle.extent_list.specs.media_map.specs.Places.{bytes_of_run, start_of}
-use Rattle.extent_list.specs.media_map.specs.region_config.specs.Configurations.{Configuration}
-use Rattle.device_rules.specs.Hosts.{accepted_after, block_after, held_after, moves, offers_after, same_kind}
-use Rattle.device_rules.specs.Logs.{log_after, same_log}
-use Rattle.device_rules.specs.Outcomes.{Outcome, effects_of}
-use Rattle.device_rules.specs.Views.{View, view_after, view_of}
-use Rattle.device_rules.proofs.EffectKinds.{PassRecords, outcome_passes, tells}
-use Rattle.device_rules.proofs.Leaving.{over-leaving}
-use Rattle.device_rules.proofs.ViewSteps.{view_of-push}
+use Rattle.journal_core.specs.declared.{entries.Entry.Entry, outcome.Effect.Effect, outcome.HeldKind.HeldKind}
+use Rattle.extent_list.specs.{ExtentLists.cut, media_map.specs.Places.bytes_of_run, media_map.specs.Places.start_of, media_map.specs.region_config.specs.Configurations.Configuration}
+use Rattle.device_rules.proofs.{EffectKinds.PassRecords, EffectKinds.outcome_passes, EffectKinds.tells, Leaving.over-leaving, ViewSteps.view_of-push}
+use Rattle.device_rules.specs.{Hosts.accepted_after, Hosts.block_after, Hosts.held_after, Hosts.moves, Hosts.offers_after, Hosts.same_kind, Logs.log_after, Logs.same_log}
+use Rattle.device_rules.specs.{Outcomes.Outcome, Outcomes.effects_of, Views.View, Views.view_after, Views.view_of}
 
 -- The effect is none of this host's, no record of its log, and no block size.
 abbrev pub leaves_view : HostId → Effect → Bool

@@ -1,18 +1,11 @@
 -- An extent that is made of blocks is one run of granules of one region.
 use Rattle.std.proofs.Common.{◌≡◌, ℕ, ◌%◌, ◌<◌, true, List, length, Some, ap, sym, ◌∙◌, arith}
 use Rattle.std.specs.List.{AllByRecursion}
-use Rattle.cci_codec.specs.dcd_base.specs.Words.{has_granule}
-use Rattle.cci_codec.specs.dcd_base.specs.declared.capacity.Extent.{Extent}
-use Rattle.cci_codec.specs.dcd_base.specs.declared.ids.HostId.{HostId}
-use Rattle.extent_list.specs.media_map.proofs.RunLemmas.{granular_from, run_found}
-use Rattle.extent_list.specs.media_map.specs.Places.{region_at, run_in, run_of}
-use Rattle.extent_list.specs.media_map.specs.region_config.specs.Configurations.{Configuration}
-use Rattle.extent_list.specs.media_map.specs.region_config.specs.Granules.{granule_size, region_of}
-use Rattle.extent_list.specs.media_map.specs.region_config.specs.Soundness.{IsSound}
+use Rattle.cci_codec.specs.dcd_base.specs.{Words.has_granule, declared.capacity.Extent.Extent, declared.ids.HostId.HostId}
+use Rattle.extent_list.specs.media_map.{proofs.RunLemmas.granular_from, proofs.RunLemmas.run_found, specs.Places.region_at, specs.Places.run_in, specs.Places.run_of}
+use Rattle.extent_list.specs.media_map.specs.region_config.specs.{Configurations.Configuration, Granules.granule_size, Granules.region_of, Soundness.IsSound}
+use Rattle.device_rules.proofs.{Holding.in_run, Homes.made_granular, Homes.made_is_run, Homes.made_of_region, Homes.made_region, Homes.made_run, ListSteps.each-change}
 use Rattle.device_rules.specs.Standing.{IsMade}
-use Rattle.device_rules.proofs.Holding.{in_run}
-use Rattle.device_rules.proofs.Homes.{made_granular, made_is_run, made_of_region, made_region, made_run}
-use Rattle.device_rules.proofs.ListSteps.{each-change}
 
 -- The range of the extent has a run, whose granules are of the region of its first one.
 pub record IsOneRun (c : Configuration) (h : HostId) (x : Extent) : Type 0 where

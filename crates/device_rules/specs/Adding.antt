@@ -1,29 +1,17 @@
 -- The manager offers capacity to a host: 5604h.
-use Rattle.extent_list.specs.media_map.specs.Places.{extent_of}
-use Rattle.granule_map.specs.Blocks.{block_count}
-use Rattle.granule_map.specs.Choices.{longest_run, passing}
+use Rattle.extent_list.specs.{ExtentLists.real_tags, ExtentLists.has_extent_of, Listing.too_many_extents, dcd_codes.specs.Rules.◌breaks◌, dcd_codes.specs.declared.rules.Rule.Rule}
+use Rattle.extent_list.specs.media_map.specs.{Places.extent_of, region_config.specs.Configurations.Configuration}
+use Rattle.extent_list.specs.media_map.specs.region_config.specs.Granules.{first_granule, granule_size, region_granules, region_spec, with_blocks}
+use Rattle.granule_map.specs.{Blocks.block_count, Choices.longest_run, Choices.passing}
 use Rattle.selection.specs.Selections.{contiguous_runs, free_runs, is_free_block, prescribed_rule, too_few_free}
-use Rattle.cci_codec.specs.dcd_base.specs.Limits.{tags_supported}
-use Rattle.cci_codec.specs.dcd_base.specs.Words.{zero_tag, has_tag, is_zero_tag, where_true, ◌or◌}
+use Rattle.cci_codec.specs.dcd_base.specs.{Limits.tags_supported, Words.zero_tag, Words.has_tag, Words.is_zero_tag, Words.where_true, Words.◌or◌, declared.capacity.Extent.Extent}
+use Rattle.cci_codec.specs.dcd_base.specs.declared.{capacity.Tag.Tag, ids.HostId.HostId, media.Run.Run, steps.LogId.LogId}
 use Rattle.std.specs.Prelude.{ℕ, ◌+◌, ◌/◌, ◌%◌, Bool, ◌&&◌, ◌||◌, not, ◌==◌, nat_le, nat_lt, List, [], ◌∷◌, ◌++◌, length, map, Option, unwrap_or, if◌then◌else◌}
 use Rattle.std.specs.List.{enumerate_from}
-use Rattle.cci_codec.specs.dcd_base.specs.declared.ids.HostId.{HostId}
-use Rattle.cci_codec.specs.dcd_base.specs.declared.capacity.Tag.{Tag}
-use Rattle.cci_codec.specs.dcd_base.specs.declared.capacity.Extent.{Extent}
-use Rattle.cci_codec.specs.dcd_base.specs.declared.media.Run.{Run}
-use Rattle.cci_codec.specs.dcd_base.specs.declared.steps.LogId.{LogId}
-use Rattle.extent_list.specs.dcd_codes.specs.declared.rules.Rule.{Rule}
 use Rattle.event_records.specs.declared.events.EventKind.{EventKind}
-use Rattle.extent_list.specs.media_map.specs.region_config.specs.Configurations.{Configuration}
 use Rattle.journal_core.specs.declared.outcome.Effect.{Effect}
-use Rattle.extent_list.specs.media_map.specs.region_config.specs.Granules.{first_granule, granule_size, region_granules, region_spec, with_blocks}
-use Rattle.device_rules.specs.Hosts.{block_of}
-use Rattle.device_rules.specs.Views.{View, view_after, extents_in}
-use Rattle.extent_list.specs.ExtentLists.{real_tags, has_extent_of}
-use Rattle.extent_list.specs.dcd_codes.specs.Rules.{◌breaks◌}
-use Rattle.device_rules.specs.Tags.{last_offer, tag_region, tag_runs, is_live, open_tags, status, is_free}
-use Rattle.extent_list.specs.Listing.{too_many_extents}
-use Rattle.device_rules.specs.Outcomes.{log_full, Outcome, records_of_extents}
+use Rattle.device_rules.specs.{Hosts.block_of, Outcomes.log_full, Outcomes.Outcome, Outcomes.records_of_extents}
+use Rattle.device_rules.specs.{Tags.last_offer, Tags.tag_region, Tags.tag_runs, Tags.is_live, Tags.open_tags, Tags.status, Tags.is_free, Views.View, Views.view_after, Views.extents_in}
 
 -- each with the tag, and in a shareable region numbered from 1
 abbrev pub with_tag : Bool → Tag → List Extent → List Extent

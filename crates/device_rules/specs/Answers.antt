@@ -1,42 +1,23 @@
 -- The rule that a command breaks, and the answer to a command or a scrub.
 use Rattle.std.specs.Prelude.{ℕ, ◌==◌, ◌++◌, List, [], length, map, take, Option, Some, None, if◌then◌else◌}
-use Rattle.std.specs.Result.{result_err}
-use Rattle.std.specs.declared.result.Result.{Result}
-use Rattle.std.specs.declared.result.Result.TheVariants.{Ok, Err}
-use Rattle.cci_codec.specs.dcd_base.specs.declared.ids.HostId.{HostId}
-use Rattle.cci_codec.specs.dcd_base.specs.declared.steps.Actor.{Actor}
-use Rattle.cci_codec.specs.dcd_base.specs.declared.steps.LogId.{LogId}
-use Rattle.extent_list.specs.dcd_codes.specs.declared.codes.Code.{Code}
-use Rattle.extent_list.specs.dcd_codes.specs.declared.rules.Rule.{Rule}
-use Rattle.cci_codec.specs.declared.messages.Request.{Request}
-use Rattle.host_payloads.specs.declared.requests.HostRequest.{HostRequest}
-use Rattle.fm_payloads.specs.declared.requests.FmRequest.{FmRequest}
-use Rattle.extent_list.specs.media_map.specs.region_config.specs.Configurations.{Configuration}
-use Rattle.journal_core.specs.declared.acts.Act.{Act}
-use Rattle.journal_core.specs.declared.acts.Reply.{Reply}
-use Rattle.journal_core.specs.declared.outcome.HeldKind.{HeldKind}
-use Rattle.journal_core.specs.declared.outcome.Effect.{Effect}
-use Rattle.journal_core.specs.declared.entries.Entry.{Entry}
-use Rattle.extent_list.specs.media_map.specs.region_config.specs.Granules.{same_region, with_blocks}
-use Rattle.journal_core.specs.Entries.{effects}
-use Rattle.device_rules.specs.Logs.{log_of}
-use Rattle.device_rules.specs.Views.{View, view_of}
-use Rattle.extent_list.specs.ExtentLists.{count_in}
-use Rattle.extent_list.specs.dcd_codes.specs.Rules.{code_of, number_of}
-use Rattle.device_rules.specs.Tags.{dirty_granules}
-use Rattle.cci_codec.specs.dcd_base.specs.declared.faults.PayloadFault.{PayloadFault as HostFault, PayloadFault as ManagerFault}
-use Rattle.host_payloads.specs.HostPayloads.{host_request}
-use Rattle.fm_payloads.specs.ManagerPayloads.{manager_request}
-use Rattle.device_rules.specs.Outcomes.{Outcome, only, effects_of}
-use Rattle.device_rules.specs.EventCommands.{log_named, no_such_log, events_reply, clear_rule, clear_outcome}
-use Rattle.offer_core.specs.Responses.{respond_rule}
-use Rattle.device_rules.specs.ResponseOutcomes.{unhold, respond_outcome}
-use Rattle.release_core.specs.Releases.{give_back_rule}
-use Rattle.device_rules.specs.ReleaseOutcomes.{give_back_outcome, remove_rule, remove_outcome}
-use Rattle.granule_map.specs.Choices.{joined}
+use Rattle.std.specs.{Result.result_err, declared.result.Result.Result, declared.result.Result.TheVariants.Ok, declared.result.Result.TheVariants.Err}
+use Rattle.cci_codec.specs.dcd_base.specs.declared.{faults.PayloadFault.PayloadFault as HostFault, faults.PayloadFault.PayloadFault as ManagerFault, ids.HostId.HostId, steps.Actor.Actor}
+use Rattle.cci_codec.specs.{dcd_base.specs.declared.steps.LogId.LogId, declared.messages.Request.Request}
+use Rattle.extent_list.specs.{ExtentLists.count_in, dcd_codes.specs.Rules.code_of, dcd_codes.specs.Rules.number_of, dcd_codes.specs.declared.codes.Code.Code, dcd_codes.specs.declared.rules.Rule.Rule}
+use Rattle.extent_list.specs.media_map.specs.region_config.specs.{Configurations.Configuration, Granules.same_region, Granules.with_blocks}
+use Rattle.host_payloads.specs.{declared.requests.HostRequest.HostRequest, HostPayloads.host_request}
+use Rattle.fm_payloads.specs.{declared.requests.FmRequest.FmRequest, ManagerPayloads.manager_request}
+use Rattle.journal_core.specs.{declared.acts.Act.Act, declared.acts.Reply.Reply, declared.outcome.HeldKind.HeldKind, declared.outcome.Effect.Effect, declared.entries.Entry.Entry, Entries.effects}
 use Rattle.device_rules.specs.Adding.{add_rule, add_outcome}
-use Rattle.device_rules.specs.Settings.{past_end, no_such_region, configuration_reply, extents_reply, info_reply, regions_rule, regions_reply, lists_rule, lists_reply, set_rule, set_outcome}
+use Rattle.device_rules.specs.{EventCommands.log_named, EventCommands.no_such_log, EventCommands.events_reply, EventCommands.clear_rule, EventCommands.clear_outcome, Logs.log_of}
+use Rattle.device_rules.specs.{Outcomes.Outcome, Outcomes.only, Outcomes.effects_of, ReleaseOutcomes.give_back_outcome, ReleaseOutcomes.remove_rule, ReleaseOutcomes.remove_outcome}
+use Rattle.device_rules.specs.ResponseOutcomes.{unhold, respond_outcome}
 use Rattle.device_rules.specs.TagCommands.{add_reference_rule, add_reference_outcome, remove_reference_rule, remove_reference_outcome, tags_rule, tags_reply}
+use Rattle.device_rules.specs.{Tags.dirty_granules, Views.View, Views.view_of}
+use Rattle.offer_core.specs.Responses.{respond_rule}
+use Rattle.release_core.specs.Releases.{give_back_rule}
+use Rattle.granule_map.specs.Choices.{joined}
+use Rattle.device_rules.specs.Settings.{past_end, no_such_region, configuration_reply, extents_reply, info_reply, regions_rule, regions_reply, lists_rule, lists_reply, set_rule, set_outcome}
 
 -- ---- the first broken rule of a request, in the order of its row
 

@@ -1,8 +1,7 @@
 -- What every legal journal keeps of the block sizes.
 use Rattle.std.specs.Prelude.{◌≡◌, ◌<◌, ℕ, true, List, length}
 use Rattle.journal_core.specs.declared.outcome.Effect.{Effect}
-use Rattle.extent_list.specs.media_map.specs.region_config.specs.Configurations.{Configuration}
-use Rattle.extent_list.specs.media_map.specs.region_config.specs.Granules.{is_supported, region_spec}
+use Rattle.extent_list.specs.media_map.specs.region_config.specs.{Configurations.Configuration, Granules.is_supported, Granules.region_spec}
 use Rattle.device_rules.specs.Hosts.{block_of}
 
 -- The present block of each region is a size that it supports.

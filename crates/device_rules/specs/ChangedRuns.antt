@@ -1,16 +1,10 @@
 -- What a step changes of holders and words, as a list of runs.
 use Rattle.std.specs.Prelude.{◌≡◌, ℕ, suc, ◌+◌, ◌<◌, ◌≤◌, Bool, All, false, ◌&&◌, List, ◌++◌, fold, if◌then◌else◌, length}
 use Rattle.std.specs.List.{list_any}
-use Rattle.cci_codec.specs.dcd_base.specs.Words.{has_granule}
-use Rattle.cci_codec.specs.dcd_base.specs.declared.ids.HostId.{HostId}
-use Rattle.cci_codec.specs.dcd_base.specs.declared.media.Change.{Change}
-use Rattle.cci_codec.specs.dcd_base.specs.declared.media.Run.{Run}
-use Rattle.extent_list.specs.media_map.specs.region_config.specs.Configurations.{Configuration}
-use Rattle.extent_list.specs.media_map.specs.region_config.specs.Granules.{first_granule, granule_total}
-use Rattle.journal_core.specs.Holders.{holds}
-use Rattle.journal_core.specs.declared.outcome.Effect.{Effect}
+use Rattle.cci_codec.specs.dcd_base.specs.{Words.has_granule, declared.ids.HostId.HostId, declared.media.Change.Change, declared.media.Run.Run, Hosts.has_host}
+use Rattle.extent_list.specs.media_map.specs.region_config.specs.{Configurations.Configuration, Granules.first_granule, Granules.granule_total}
+use Rattle.journal_core.specs.{Holders.holds, declared.outcome.Effect.Effect}
 use Rattle.device_rules.specs.Legal.{is_zeroing}
-use Rattle.cci_codec.specs.dcd_base.specs.Hosts.{has_host}
 
 -- the holders of a granule after one change, a bit for each host
 abbrev pub holders_after : ℕ → ℕ → Change → ℕ

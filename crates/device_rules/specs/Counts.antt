@@ -1,15 +1,11 @@
 -- What is counted of a device: granules and records.
 use Rattle.std.specs.Prelude.{ℕ, List, length, sum_by}
-use Rattle.cci_codec.specs.dcd_base.specs.declared.ids.HostId.{HostId}
-use Rattle.cci_codec.specs.dcd_base.specs.declared.steps.LogId.{LogId}
+use Rattle.cci_codec.specs.dcd_base.specs.declared.{ids.HostId.HostId, steps.LogId.LogId}
 use Rattle.event_records.specs.declared.events.Event.{Event}
-use Rattle.extent_list.specs.media_map.specs.region_config.specs.Configurations.{Configuration}
-use Rattle.extent_list.specs.media_map.specs.Places.{run_of}
+use Rattle.extent_list.specs.media_map.specs.{region_config.specs.Configurations.Configuration, Places.run_of}
 use Rattle.journal_core.specs.declared.outcome.Effect.{Effect}
-use Rattle.device_rules.specs.Hosts.{accepted_of}
+use Rattle.device_rules.specs.{Hosts.accepted_of, Logs.log_of, Tags.free_granules, Tags.dirty_granules}
 use Rattle.event_log.specs.Logs.{records_in}
-use Rattle.device_rules.specs.Logs.{log_of}
-use Rattle.device_rules.specs.Tags.{free_granules, dirty_granules}
 
 -- how many extents the host has accepted, and how many granules they have
 unfoldable pub extent_count : Configuration → HostId → List Effect → ℕ

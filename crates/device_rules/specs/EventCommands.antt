@@ -1,14 +1,9 @@
 -- Reading a log and clearing it: 0100h and 0101h.
 use Rattle.std.specs.Prelude.{ℕ, Bool, not, ◌==◌, nat_le, nat_lt, List, [], ◌∷◌, ◌++◌, length, take, Option, option_map, if◌then◌else◌}
-use Rattle.cci_codec.specs.dcd_base.specs.declared.steps.LogId.{LogId}
-use Rattle.extent_list.specs.dcd_codes.specs.declared.rules.Rule.{Rule}
+use Rattle.cci_codec.specs.dcd_base.specs.{declared.steps.LogId.LogId, Limits.reply_records, Words.◌or◌}
+use Rattle.extent_list.specs.dcd_codes.specs.{declared.rules.Rule.Rule, Rules.◌breaks◌}
 use Rattle.journal_core.specs.declared.outcome.Effect.{Effect}
-use Rattle.event_log.specs.LogStates.{clear_fault}
-use Rattle.event_log.specs.Logs.{Log, empty_log, records_in}
-use Rattle.event_log.specs.declared.faults.ClearFault.{ClearFault}
-use Rattle.extent_list.specs.dcd_codes.specs.Rules.{◌breaks◌}
-use Rattle.cci_codec.specs.dcd_base.specs.Limits.{reply_records}
-use Rattle.cci_codec.specs.dcd_base.specs.Words.{◌or◌}
+use Rattle.event_log.specs.{LogStates.clear_fault, Logs.Log, Logs.empty_log, Logs.records_in, declared.faults.ClearFault.ClearFault}
 use Rattle.host_payloads.specs.HostPayloads.{events_payload}
 use Rattle.device_rules.specs.Outcomes.{Outcome}
 

@@ -1,17 +1,9 @@
 -- What the device keeps of a granule, and what each effect of a command or scrub makes of it.
 use Rattle.std.specs.Prelude.{◌≡◌, ℕ, Bool, true, ◌&&◌, ◌||◌, List, fold, Option, Some, None, if◌then◌else◌}
-use Rattle.cci_codec.specs.dcd_base.specs.Words.{has_granule}
-use Rattle.cci_codec.specs.dcd_base.specs.declared.capacity.Extent.{Extent}
-use Rattle.cci_codec.specs.dcd_base.specs.declared.capacity.Tag.{Tag}
-use Rattle.cci_codec.specs.dcd_base.specs.declared.ids.HostId.{HostId}
-use Rattle.cci_codec.specs.dcd_base.specs.declared.media.Run.{Run}
-use Rattle.extent_list.specs.media_map.specs.region_config.specs.Configurations.{Configuration}
-use Rattle.extent_list.specs.media_map.specs.region_config.specs.Granules.{region_of, region_spec}
-use Rattle.extent_list.specs.media_map.specs.Places.{run_in}
-use Rattle.granule_map.specs.declared.states.GranuleState.{GranuleState}
-use Rattle.granule_map.specs.Tables.{Cell, given, settled, soiled, zeroed}
-use Rattle.journal_core.specs.Holders.{is_soiled, is_taken}
-use Rattle.journal_core.specs.declared.outcome.Effect.{Effect}
+use Rattle.cci_codec.specs.dcd_base.specs.{Words.has_granule, declared.capacity.Extent.Extent, declared.capacity.Tag.Tag, declared.ids.HostId.HostId, declared.media.Run.Run}
+use Rattle.extent_list.specs.media_map.specs.{region_config.specs.Configurations.Configuration, region_config.specs.Granules.region_of, region_config.specs.Granules.region_spec, Places.run_in}
+use Rattle.granule_map.specs.{declared.states.GranuleState.GranuleState, Tables.Cell, Tables.given, Tables.settled, Tables.soiled, Tables.zeroed}
+use Rattle.journal_core.specs.{Holders.is_soiled, Holders.is_taken, declared.outcome.Effect.Effect}
 use Rattle.device_rules.specs.Tags.{Dirty, Free, Held, Offered, Status, Tagged, status}
 
 -- the status that a state stands for, whoever it names

@@ -1,14 +1,9 @@
 -- Which host a granule is offered to, and which tag it stands for.
-use Rattle.std.specs.Prelude.{ℕ, Bool, List, map}
-use Rattle.std.specs.List.{list_any}
-use Rattle.cci_codec.specs.dcd_base.specs.Words.{has_in_runs}
-use Rattle.cci_codec.specs.dcd_base.specs.declared.capacity.Tag.{Tag}
-use Rattle.cci_codec.specs.dcd_base.specs.declared.ids.HostId.{HostId}
+use Rattle.std.specs.{Prelude.ℕ, Prelude.Bool, Prelude.List, Prelude.map, List.list_any}
+use Rattle.cci_codec.specs.dcd_base.specs.{Words.has_in_runs, declared.capacity.Tag.Tag, declared.ids.HostId.HostId}
 use Rattle.journal_core.specs.declared.outcome.Effect.{Effect}
-use Rattle.extent_list.specs.media_map.specs.Places.{run_of}
-use Rattle.extent_list.specs.media_map.specs.region_config.specs.Configurations.{Configuration}
-use Rattle.device_rules.specs.Hosts.{offers_of}
-use Rattle.device_rules.specs.Tags.{last_offer, tag_runs}
+use Rattle.extent_list.specs.media_map.specs.{Places.run_of, region_config.specs.Configurations.Configuration}
+use Rattle.device_rules.specs.{Hosts.offers_of, Tags.last_offer, Tags.tag_runs}
 
 -- whether the granule stands in an unanswered offer to the host
 abbrev pub is_granule_offered : Configuration → HostId → ℕ → List Effect → Bool

@@ -1,19 +1,11 @@
 -- That what is kept of a granule stays right.
 use Rattle.std.specs.Prelude.{◌≡◌, ℕ, ◌<◌, true, List, [], ◌∷◌, ◌++◌}
-use Rattle.cci_codec.specs.dcd_base.specs.declared.capacity.Extent.{Extent}
-use Rattle.cci_codec.specs.dcd_base.specs.declared.capacity.Tag.{Tag}
-use Rattle.cci_codec.specs.dcd_base.specs.declared.ids.HostId.{HostId}
-use Rattle.cci_codec.specs.dcd_base.specs.declared.media.Run.{Run}
-use Rattle.cci_codec.specs.dcd_base.specs.Words.{has_tag}
-use Rattle.extent_list.specs.media_map.specs.region_config.specs.Configurations.{Configuration}
-use Rattle.extent_list.specs.media_map.specs.region_config.specs.Granules.{granule_total}
+use Rattle.cci_codec.specs.dcd_base.specs.{declared.capacity.Extent.Extent, declared.capacity.Tag.Tag, declared.ids.HostId.HostId, declared.media.Run.Run, Words.has_tag}
+use Rattle.extent_list.specs.media_map.specs.region_config.specs.{Configurations.Configuration, Granules.granule_total}
 use Rattle.offer_core.specs.Offerings.{oldest_of}
 use Rattle.granule_map.specs.Tables.{Cell}
-use Rattle.journal_core.specs.Entries.{effects}
-use Rattle.journal_core.specs.declared.entries.Entry.{Entry}
-use Rattle.device_rules.specs.Hosts.{offers_of}
-use Rattle.device_rules.specs.Tags.{last_offer, open_tags, tag_runs}
-use Rattle.device_rules.specs.GranuleCells.{IsCell, cell_over}
+use Rattle.journal_core.specs.{Entries.effects, declared.entries.Entry.Entry}
+use Rattle.device_rules.specs.{Hosts.offers_of, Tags.last_offer, Tags.open_tags, Tags.tag_runs, GranuleCells.IsCell, GranuleCells.cell_over}
 
 -- These are the oldest offers, and the runs of the open tags.
 pub record AreKnown (c : Configuration) (before : List Entry) (oldest : HostId → List Extent) (runs : Tag → List Run) : Type 0 where

@@ -1,16 +1,10 @@
 -- The lists of one host, each as the effects so far leave it.
 use Rattle.std.specs.Prelude.{ℕ, ◌+◌, Bool, true, false, ◌&&◌, not, ◌==◌, List, [], ◌∷◌, ◌++◌, fold, drop, if◌then◌else◌}
 use Rattle.std.specs.List.{list_any}
-use Rattle.cci_codec.specs.dcd_base.specs.declared.ids.HostId.{HostId}
-use Rattle.cci_codec.specs.dcd_base.specs.declared.capacity.Extent.{Extent}
-use Rattle.extent_list.specs.media_map.specs.region_config.specs.Configurations.{Configuration}
-use Rattle.journal_core.specs.declared.outcome.HeldKind.{HeldKind}
-use Rattle.journal_core.specs.declared.outcome.Effect.{Effect}
-use Rattle.journal_core.specs.declared.entries.Entry.{Entry}
-use Rattle.cci_codec.specs.dcd_base.specs.Words.{is_empty}
+use Rattle.cci_codec.specs.dcd_base.specs.{declared.ids.HostId.HostId, declared.capacity.Extent.Extent, Words.is_empty}
+use Rattle.extent_list.specs.{ExtentLists.cut, media_map.specs.Places.start_of, media_map.specs.Places.bytes_of_run, media_map.specs.region_config.specs.Configurations.Configuration}
 use Rattle.extent_list.specs.media_map.specs.region_config.specs.Granules.{region_spec}
-use Rattle.extent_list.specs.media_map.specs.Places.{start_of, bytes_of_run}
-use Rattle.extent_list.specs.ExtentLists.{cut}
+use Rattle.journal_core.specs.declared.{outcome.HeldKind.HeldKind, outcome.Effect.Effect, entries.Entry.Entry}
 
 -- an offer joins the last, and an answer takes the first away
 abbrev pub offers_after : HostId → List (List Extent) → Effect → List (List Extent)

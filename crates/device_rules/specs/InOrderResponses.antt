@@ -1,22 +1,12 @@
 -- Responses that list extents of the host's oldest offer whole and in order.
 use Rattle.std.specs.Prelude.{◌≡◌, ◌⊎◌, Bool, List, [], ◌∷◌, length, IsTrue, None}
 use Rattle.std.specs.declared.result.Result.TheVariants.{Ok}
-use Rattle.cci_codec.specs.declared.messages.Request.{Request}
-use Rattle.cci_codec.specs.dcd_base.specs.declared.capacity.Extent.{Extent}
-use Rattle.cci_codec.specs.dcd_base.specs.declared.ids.HostId.{HostId}
-use Rattle.cci_codec.specs.dcd_base.specs.declared.steps.Actor.{Actor}
-use Rattle.extent_list.specs.dcd_codes.specs.declared.codes.Code.{Code}
-use Rattle.host_payloads.specs.HostPayloads.{host_request}
-use Rattle.host_payloads.specs.declared.requests.HostRequest.{HostRequest}
-use Rattle.extent_list.specs.media_map.specs.region_config.specs.Configurations.{Configuration}
-use Rattle.extent_list.specs.media_map.specs.region_config.specs.Granules.{region_spec}
+use Rattle.cci_codec.specs.{declared.messages.Request.Request, dcd_base.specs.declared.capacity.Extent.Extent, dcd_base.specs.declared.ids.HostId.HostId, dcd_base.specs.declared.steps.Actor.Actor}
+use Rattle.extent_list.specs.{dcd_codes.specs.declared.codes.Code.Code, media_map.specs.region_config.specs.Configurations.Configuration, media_map.specs.region_config.specs.Granules.region_spec}
+use Rattle.host_payloads.specs.{HostPayloads.host_request, declared.requests.HostRequest.HostRequest}
 use Rattle.offer_core.specs.InOrder.{AreSome, SameAddresses}
-use Rattle.journal_core.specs.declared.acts.Act.{Act}
-use Rattle.journal_core.specs.declared.entries.Entry.{Entry}
-use Rattle.device_rules.specs.Answers.{host_rule, response}
-use Rattle.device_rules.specs.Legal.{right_answer}
-use Rattle.device_rules.specs.Tags.{region_of_offer}
-use Rattle.device_rules.specs.Views.{View, view_of}
+use Rattle.journal_core.specs.declared.{acts.Act.Act, entries.Entry.Entry}
+use Rattle.device_rules.specs.{Answers.host_rule, Answers.response, Legal.right_answer, Tags.region_of_offer, Views.View, Views.view_of}
 
 -- The list has extents of the host's oldest offer whole, in order and each at most once, and nothing is held of earlier
 -- responses. Where the offer's region is shareable, the list has all of them or none.

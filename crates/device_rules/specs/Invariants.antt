@@ -1,22 +1,12 @@
 -- What every legal journal keeps: holdings, and the open tags by liveness.
-use Rattle.cci_codec.specs.dcd_base.specs.Limits.{extents_supported}
-use Rattle.cci_codec.specs.dcd_base.specs.Words.{same_tag, has_granule, has_tag, has_in_runs}
-use Rattle.device_rules.specs.Tags.{is_live_shareable, last_offer, tag_runs, open_tags}
-use Rattle.cci_codec.specs.dcd_base.specs.declared.capacity.Tag.{Tag}
+use Rattle.cci_codec.specs.dcd_base.specs.{Limits.extents_supported, Words.same_tag, Words.has_granule, Words.has_tag, Words.has_in_runs, declared.capacity.Extent.Extent, declared.capacity.Tag.Tag}
+use Rattle.cci_codec.specs.dcd_base.specs.declared.ids.HostId.{HostId}
+use Rattle.device_rules.specs.{Tags.is_live_shareable, Tags.last_offer, Tags.tag_runs, Tags.open_tags, Hosts.accepted_of, Views.View, Views.view_of, Views.extents_in}
 use Rattle.std.specs.List.{list_any, list_all, range_with_len}
 use Rattle.std.specs.Prelude.{AllPairs, ◌≡◌, ℕ, ◌<◌, ◌≤◌, Bool, false, ◌&&◌, ◌||◌, not, ◌==◌, List, [], ◌∷◌, ◌++◌, length, map, count_by, filter, if◌then◌else◌, IsTrue, IsFalse}
-use Rattle.cci_codec.specs.dcd_base.specs.declared.ids.HostId.{HostId}
-use Rattle.cci_codec.specs.dcd_base.specs.declared.capacity.Extent.{Extent}
-use Rattle.extent_list.specs.media_map.specs.region_config.specs.Configurations.{Configuration}
-use Rattle.journal_core.specs.declared.outcome.Effect.{Effect}
-use Rattle.journal_core.specs.declared.entries.Entry.{Entry}
-use Rattle.extent_list.specs.media_map.specs.region_config.specs.Granules.{region_spec, region_of, with_blocks}
-use Rattle.extent_list.specs.media_map.specs.Places.{region_at, run_of}
-use Rattle.journal_core.specs.Entries.{effects}
-use Rattle.journal_core.specs.Holders.{holds}
-use Rattle.device_rules.specs.Hosts.{accepted_of}
-use Rattle.device_rules.specs.Views.{View, view_of, extents_in}
-use Rattle.extent_list.specs.Listing.{lies_in_region, is_aligned}
+use Rattle.extent_list.specs.{Listing.lies_in_region, Listing.is_aligned, media_map.specs.Places.region_at, media_map.specs.Places.run_of}
+use Rattle.extent_list.specs.media_map.specs.region_config.specs.{Configurations.Configuration, Granules.region_spec, Granules.region_of, Granules.with_blocks}
+use Rattle.journal_core.specs.{declared.outcome.Effect.Effect, declared.entries.Entry.Entry, Entries.effects, Holders.holds}
 
 -- the extents of the host, accepted or offered, that have the granule
 abbrev pub claims_of : Configuration → HostId → List Entry → ℕ → List Extent

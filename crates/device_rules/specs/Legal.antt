@@ -1,25 +1,13 @@
 -- Words and legal journals.
 use Rattle.std.specs.Prelude.{◌≡◌, ℕ, Bool, false, ◌&&◌, ◌==◌, List, [], ◌++◌, map, filter, fold, if◌then◌else◌, IsTrue, IsFalse}
-use Rattle.std.specs.List.{list_any}
-use Rattle.std.specs.declared.result.Result.{Result}
-use Rattle.std.specs.declared.result.Result.TheVariants.{Ok, Err}
-use Rattle.cci_codec.specs.dcd_base.specs.declared.ids.HostId.{HostId}
-use Rattle.cci_codec.specs.dcd_base.specs.declared.capacity.Tag.{Tag}
-use Rattle.cci_codec.specs.dcd_base.specs.declared.media.Place.{Place}
-use Rattle.cci_codec.specs.dcd_base.specs.declared.steps.Actor.{Actor}
-use Rattle.cci_codec.specs.dcd_base.specs.declared.failures.AccessFault.{AccessFault}
-use Rattle.extent_list.specs.media_map.specs.region_config.specs.Configurations.{Configuration}
-use Rattle.journal_core.specs.declared.acts.Act.{Act}
-use Rattle.journal_core.specs.declared.acts.Reply.{Reply}
-use Rattle.journal_core.specs.declared.outcome.Effect.{Effect}
-use Rattle.journal_core.specs.declared.entries.Entry.{Entry}
-use Rattle.cci_codec.specs.dcd_base.specs.Words.{same_tag, has_granule, has_in_runs}
+use Rattle.std.specs.{List.list_any, declared.result.Result.Result, declared.result.Result.TheVariants.Ok, declared.result.Result.TheVariants.Err}
+use Rattle.cci_codec.specs.dcd_base.specs.{Words.same_tag, Words.has_granule, Words.has_in_runs, declared.capacity.Tag.Tag, declared.failures.AccessFault.AccessFault, declared.ids.HostId.HostId}
+use Rattle.cci_codec.specs.dcd_base.specs.declared.{media.Place.Place, steps.Actor.Actor}
+use Rattle.extent_list.specs.media_map.specs.{Places.locate, Places.run_of, region_config.specs.Configurations.Configuration}
 use Rattle.extent_list.specs.media_map.specs.region_config.specs.Granules.{region_spec, region_of}
-use Rattle.extent_list.specs.media_map.specs.Places.{locate, run_of}
-use Rattle.journal_core.specs.Entries.{effects, Each, fits}
-use Rattle.journal_core.specs.Holders.{holds}
-use Rattle.device_rules.specs.Hosts.{accepted_of}
-use Rattle.device_rules.specs.Answers.{answer}
+use Rattle.journal_core.specs.{Entries.effects, Entries.Each, Entries.fits, Holders.holds, declared.acts.Act.Act, declared.acts.Reply.Reply, declared.entries.Entry.Entry}
+use Rattle.journal_core.specs.declared.outcome.Effect.{Effect}
+use Rattle.device_rules.specs.{Hosts.accepted_of, Answers.answer}
 
 -- ---- what a word of the memory is
 

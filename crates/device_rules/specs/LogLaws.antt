@@ -1,12 +1,8 @@
 -- What every legal journal keeps of the event logs.
-use Rattle.std.specs.Prelude.{◌≡◌, Bool, false, true, List}
-use Rattle.std.specs.List.{list_all}
-use Rattle.cci_codec.specs.dcd_base.specs.declared.ids.HostId.{HostId}
-use Rattle.cci_codec.specs.dcd_base.specs.declared.steps.LogId.{LogId}
+use Rattle.std.specs.{Prelude.◌≡◌, Prelude.Bool, Prelude.false, Prelude.true, Prelude.List, List.list_all}
+use Rattle.cci_codec.specs.dcd_base.specs.declared.{ids.HostId.HostId, steps.LogId.LogId}
 use Rattle.event_log.specs.Logs.{IsHistory}
-use Rattle.journal_core.specs.Entries.{effects}
-use Rattle.journal_core.specs.declared.entries.Entry.{Entry}
-use Rattle.journal_core.specs.declared.outcome.Effect.{Effect}
+use Rattle.journal_core.specs.{Entries.effects, declared.entries.Entry.Entry, declared.outcome.Effect.Effect}
 use Rattle.device_rules.specs.Logs.{log_of}
 
 -- no record found a host's log full

@@ -1,20 +1,12 @@
 -- What a command does that breaks no rule.
-use Rattle.cci_codec.specs.dcd_base.specs.Words.{zero_tag, has_tag, is_empty}
-use Rattle.std.specs.Prelude.{ℕ, Bool, ◌&&◌, not, ◌==◌, List, [], ◌∷◌, ◌++◌, map, filter, flat_map, if◌then◌else◌, nat_lt, Option}
-use Rattle.cci_codec.specs.dcd_base.specs.declared.ids.HostId.{HostId}
-use Rattle.cci_codec.specs.dcd_base.specs.declared.capacity.Tag.{Tag}
-use Rattle.cci_codec.specs.dcd_base.specs.declared.capacity.Extent.{Extent}
+use Rattle.cci_codec.specs.dcd_base.specs.{Words.zero_tag, Words.has_tag, Words.is_empty, declared.capacity.Extent.Extent, declared.capacity.Tag.Tag, declared.ids.HostId.HostId}
 use Rattle.cci_codec.specs.dcd_base.specs.declared.steps.LogId.{LogId}
-use Rattle.event_records.specs.declared.events.EventKind.{EventKind}
-use Rattle.event_records.specs.declared.events.Event.{Event}
-use Rattle.extent_list.specs.media_map.specs.region_config.specs.Configurations.{Configuration}
+use Rattle.std.specs.Prelude.{ℕ, Bool, ◌&&◌, not, ◌==◌, List, [], ◌∷◌, ◌++◌, map, filter, flat_map, if◌then◌else◌, nat_lt, Option}
+use Rattle.event_records.specs.declared.events.{EventKind.EventKind, Event.Event}
+use Rattle.extent_list.specs.{media_map.specs.region_config.specs.Configurations.Configuration, dcd_codes.specs.declared.rules.Rule.Rule, dcd_codes.specs.Rules.◌breaks◌}
 use Rattle.journal_core.specs.declared.outcome.Effect.{Effect}
 use Rattle.event_log.specs.Logs.{Log, next_handle, room_in}
-use Rattle.device_rules.specs.Logs.{log_after, log_of}
-use Rattle.device_rules.specs.Views.{View, extents_available, tags_available}
-use Rattle.device_rules.specs.Tags.{is_live, open_tags}
-use Rattle.extent_list.specs.dcd_codes.specs.declared.rules.Rule.{Rule}
-use Rattle.extent_list.specs.dcd_codes.specs.Rules.{◌breaks◌}
+use Rattle.device_rules.specs.{Logs.log_after, Logs.log_of, Views.View, Views.extents_available, Views.tags_available, Tags.is_live, Tags.open_tags}
 
 -- What it replies, what it changes, which tags may end by it, and what it tells to which log.
 pub record Outcome : Type 0 where

@@ -1,16 +1,10 @@
 -- What the effects so far leave of the lists, the holders, the blocks and the tags.
 use Rattle.std.specs.Prelude.{ℕ, Bool, ◌&&◌, ◌||◌, not, List, ◌++◌, fold, flat_map, length, Option}
 use Rattle.std.specs.List.{filter, list_any}
-use Rattle.cci_codec.specs.dcd_base.specs.declared.capacity.Extent.{Extent}
-use Rattle.cci_codec.specs.dcd_base.specs.declared.capacity.Tag.{Tag}
-use Rattle.cci_codec.specs.dcd_base.specs.declared.ids.HostId.{HostId}
-use Rattle.cci_codec.specs.dcd_base.specs.Words.{has_granule, is_zero_tag}
-use Rattle.extent_list.specs.media_map.specs.region_config.specs.Configurations.{Configuration}
+use Rattle.cci_codec.specs.dcd_base.specs.{declared.capacity.Extent.Extent, declared.capacity.Tag.Tag, declared.ids.HostId.HostId, Words.has_granule, Words.is_zero_tag}
+use Rattle.extent_list.specs.{ExtentLists.has_extent_of, media_map.specs.Places.run_of, media_map.specs.region_config.specs.Configurations.Configuration}
 use Rattle.extent_list.specs.media_map.specs.region_config.specs.Granules.{hosts_of}
-use Rattle.extent_list.specs.media_map.specs.Places.{run_of}
-use Rattle.extent_list.specs.ExtentLists.{has_extent_of}
-use Rattle.journal_core.specs.declared.outcome.Effect.{Effect}
-use Rattle.journal_core.specs.Holders.{holding_after, holds}
+use Rattle.journal_core.specs.{declared.outcome.Effect.Effect, Holders.holding_after, Holders.holds}
 use Rattle.device_rules.specs.Hosts.{accepted_after, accepted_of, block_after, block_of, offers_after, offers_of}
 use Rattle.device_rules.specs.Tags.{is_referenced, last_offer, last_offer_after, open_tags, reference_after, tags_after}
 

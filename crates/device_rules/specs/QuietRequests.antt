@@ -6,10 +6,7 @@ use Rattle.host_payloads.specs.declared.requests.HostRequest.{HostRequest}
 use Rattle.journal_core.specs.declared.outcome.Effect.{Effect}
 use Rattle.extent_list.specs.media_map.specs.region_config.specs.Configurations.{Configuration}
 use Rattle.tag_refs.specs.declared.entries.TagEntry.{TagEntry}
-use Rattle.device_rules.specs.Answers.{host_outcome, manager_outcome}
-use Rattle.device_rules.specs.Outcomes.{effects_of}
-use Rattle.device_rules.specs.Views.{View}
-use Rattle.device_rules.specs.TagTable.{IsTable}
+use Rattle.device_rules.specs.{Answers.host_outcome, Answers.manager_outcome, Outcomes.effects_of, Views.View, TagTable.IsTable}
 
 -- neither an offer nor an answer, and no extent leaves, no reference changes and no tag ends
 abbrev pub leaves_table : Effect → Bool

@@ -1,24 +1,10 @@
 -- What a refused command changes: one held list of its sender at most.
 use Rattle.std.specs.Prelude.{◌≡◌, ◌≢◌, ◌⊎◌, ℕ, ◌==◌, List, [], ◌∷◌, ◌++◌, if◌then◌else◌}
-use Rattle.cci_codec.specs.dcd_base.specs.declared.capacity.Tag.{Tag}
-use Rattle.cci_codec.specs.dcd_base.specs.declared.ids.HostId.{HostId}
-use Rattle.cci_codec.specs.dcd_base.specs.declared.steps.Actor.{Actor}
-use Rattle.cci_codec.specs.dcd_base.specs.declared.steps.LogId.{LogId}
-use Rattle.extent_list.specs.dcd_codes.specs.Rules.{number_of}
-use Rattle.extent_list.specs.dcd_codes.specs.declared.codes.Code.{Code}
-use Rattle.journal_core.specs.Entries.{effects}
-use Rattle.journal_core.specs.Holders.{holds, is_soiled, is_taken}
-use Rattle.journal_core.specs.declared.acts.Act.{Act}
-use Rattle.journal_core.specs.declared.acts.Reply.{Reply}
-use Rattle.journal_core.specs.declared.entries.Entry.{Entry}
-use Rattle.journal_core.specs.declared.outcome.Effect.{Effect}
-use Rattle.journal_core.specs.declared.outcome.HeldKind.{HeldKind}
-use Rattle.extent_list.specs.media_map.specs.region_config.specs.Configurations.{Configuration}
-use Rattle.device_rules.specs.Hosts.{block_of}
-use Rattle.device_rules.specs.Legal.{word_of}
-use Rattle.device_rules.specs.Logs.{log_of}
-use Rattle.device_rules.specs.Tags.{is_referenced, last_offer, open_tags, status}
-use Rattle.device_rules.specs.Views.{View, view_of}
+use Rattle.cci_codec.specs.dcd_base.specs.declared.{capacity.Tag.Tag, ids.HostId.HostId, steps.Actor.Actor, steps.LogId.LogId}
+use Rattle.extent_list.specs.{dcd_codes.specs.Rules.number_of, dcd_codes.specs.declared.codes.Code.Code, media_map.specs.region_config.specs.Configurations.Configuration}
+use Rattle.journal_core.specs.{Entries.effects, Holders.holds, Holders.is_soiled, Holders.is_taken, declared.acts.Act.Act, declared.acts.Reply.Reply, declared.entries.Entry.Entry}
+use Rattle.journal_core.specs.declared.outcome.{Effect.Effect, HeldKind.HeldKind}
+use Rattle.device_rules.specs.{Hosts.block_of, Legal.word_of, Logs.log_of, Tags.is_referenced, Tags.last_offer, Tags.open_tags, Tags.status, Views.View, Views.view_of}
 
 -- The command was refused: the code of its response is another than Success.
 abbrev pub IsRefusal : Reply → Type 0

@@ -1,23 +1,11 @@
 -- What giving back does: 4803h by the host, 5605h by the manager.
 use Rattle.std.specs.Prelude.{ℕ, Bool, ◌&&◌, flat_map, not, ◌==◌, nat_le, nat_lt, List, [], ◌∷◌, ◌++◌, length, map, Option, if◌then◌else◌, bit_and}
-use Rattle.cci_codec.specs.dcd_base.specs.declared.ids.HostId.{HostId}
-use Rattle.cci_codec.specs.dcd_base.specs.declared.capacity.Tag.{Tag}
-use Rattle.cci_codec.specs.dcd_base.specs.declared.capacity.Extent.{Extent}
-use Rattle.cci_codec.specs.dcd_base.specs.declared.media.Run.{Run}
-use Rattle.cci_codec.specs.dcd_base.specs.declared.steps.LogId.{LogId}
-use Rattle.extent_list.specs.dcd_codes.specs.declared.rules.Rule.{Rule}
+use Rattle.cci_codec.specs.dcd_base.specs.{declared.ids.HostId.HostId, declared.capacity.Tag.Tag, declared.capacity.Extent.Extent, declared.media.Run.Run, declared.steps.LogId.LogId, Words.◌or◌}
+use Rattle.extent_list.specs.{ExtentLists.tags_of, ExtentLists.marked, ExtentLists.count_in, dcd_codes.specs.Rules.◌breaks◌, dcd_codes.specs.declared.rules.Rule.Rule, media_map.specs.Places.run_of}
+use Rattle.extent_list.specs.media_map.specs.region_config.specs.{Configurations.Configuration, Granules.with_blocks}
 use Rattle.event_records.specs.declared.events.EventKind.{EventKind}
-use Rattle.extent_list.specs.media_map.specs.region_config.specs.Configurations.{Configuration}
-use Rattle.journal_core.specs.declared.outcome.HeldKind.{HeldKind}
-use Rattle.journal_core.specs.declared.outcome.Effect.{Effect}
-use Rattle.cci_codec.specs.dcd_base.specs.Words.{◌or◌}
-use Rattle.extent_list.specs.media_map.specs.Places.{run_of}
-use Rattle.extent_list.specs.ExtentLists.{tags_of, marked, count_in}
-use Rattle.device_rules.specs.Views.{View, view_after}
-use Rattle.extent_list.specs.media_map.specs.region_config.specs.Granules.{with_blocks}
-use Rattle.extent_list.specs.dcd_codes.specs.Rules.{◌breaks◌}
-use Rattle.device_rules.specs.Outcomes.{log_full, Outcome, records_of_extents}
-use Rattle.device_rules.specs.ResponseOutcomes.{hold, unhold}
+use Rattle.journal_core.specs.declared.outcome.{HeldKind.HeldKind, Effect.Effect}
+use Rattle.device_rules.specs.{Views.View, Views.view_after, Outcomes.log_full, Outcomes.Outcome, Outcomes.records_of_extents, ResponseOutcomes.hold, ResponseOutcomes.unhold}
 use Rattle.release_core.specs.Removals.{by_tag_rule, prescribed_removal_rule, extents_of_tag}
 
 abbrev pub leaves : Configuration → HostId → List Extent → List Effect

@@ -1,17 +1,10 @@
 -- What a host's response to its oldest offer does: 4802h.
 use Rattle.std.specs.Prelude.{Bool, false, List, [], ◌∷◌, ◌++◌, map, if◌then◌else◌}
-use Rattle.cci_codec.specs.dcd_base.specs.declared.ids.HostId.{HostId}
-use Rattle.cci_codec.specs.dcd_base.specs.declared.capacity.Extent.{Extent}
-use Rattle.cci_codec.specs.dcd_base.specs.declared.steps.LogId.{LogId}
-use Rattle.event_records.specs.declared.events.EventKind.{EventKind}
-use Rattle.event_records.specs.declared.events.Event.{Event}
-use Rattle.extent_list.specs.media_map.specs.region_config.specs.Configurations.{Configuration}
-use Rattle.journal_core.specs.declared.outcome.HeldKind.{HeldKind}
-use Rattle.journal_core.specs.declared.outcome.Effect.{Effect}
-use Rattle.extent_list.specs.media_map.specs.Places.{run_of}
-use Rattle.device_rules.specs.Views.{View, view_after}
-use Rattle.extent_list.specs.ExtentLists.{tags_of, marked}
-use Rattle.device_rules.specs.Outcomes.{Outcome, record_for, records_of_extents, no_extent}
+use Rattle.cci_codec.specs.dcd_base.specs.declared.{ids.HostId.HostId, capacity.Extent.Extent, steps.LogId.LogId}
+use Rattle.event_records.specs.declared.events.{EventKind.EventKind, Event.Event}
+use Rattle.extent_list.specs.{media_map.specs.region_config.specs.Configurations.Configuration, media_map.specs.Places.run_of, ExtentLists.tags_of, ExtentLists.marked}
+use Rattle.journal_core.specs.declared.outcome.{HeldKind.HeldKind, Effect.Effect}
+use Rattle.device_rules.specs.{Views.View, Views.view_after, Outcomes.Outcome, Outcomes.record_for, Outcomes.records_of_extents, Outcomes.no_extent}
 use Rattle.offer_core.specs.Offerings.{oldest_of}
 
 abbrev pub hold : HostId → HeldKind → List Extent → List Effect

@@ -1,25 +1,18 @@
 -- Reading and setting the configuration: 4800h, 4801h, and 5600h to 5603h.
 use Rattle.fm_payloads.specs.ManagerPayloads.{regions_head, info_payload, lists_head}
-use Rattle.host_payloads.specs.HostPayloads.{configuration_payload, region_bytes, counts_bytes, extents_payload}
-use Rattle.cci_codec.specs.dcd_base.specs.Extents.{extent_bytes}
-use Rattle.cci_codec.specs.dcd_base.specs.Limits.{page_extents, extents_supported, tags_supported}
-use Rattle.cci_codec.specs.dcd_base.specs.Words.{◌or◌, flag_of}
-use Rattle.host_payloads.specs.declared.views.Counts.{Counts}
+use Rattle.host_payloads.specs.{HostPayloads.configuration_payload, HostPayloads.region_bytes, HostPayloads.counts_bytes, HostPayloads.extents_payload, declared.views.Counts.Counts}
 use Rattle.host_payloads.specs.declared.views.RegionView.{RegionView}
+use Rattle.cci_codec.specs.dcd_base.specs.{Extents.extent_bytes, Limits.page_extents, Limits.extents_supported, Limits.tags_supported, Words.◌or◌, Words.flag_of, declared.ids.HostId.HostId}
+use Rattle.cci_codec.specs.dcd_base.specs.declared.steps.LogId.{LogId}
+use Rattle.device_rules.specs.{Outcomes.log_full, Outcomes.Outcome, Outcomes.record_for, Outcomes.no_extent, Tags.status, Tags.is_free, Tags.free_granules, Tags.dirty_granules}
 use Rattle.device_rules.specs.Views.{generation_in, View, extents_available, tags_available}
 use Rattle.std.specs.Prelude.{ℕ, ◌+◌, ◌*◌, min, Bool, false, not, ◌==◌, nat_le, nat_lt, List, [], ◌∷◌, ◌++◌, length, map, count_by, flat_map, take, drop, Option}
 use Rattle.std.specs.List.{range_with_len}
-use Rattle.cci_codec.specs.dcd_base.specs.declared.ids.HostId.{HostId}
-use Rattle.cci_codec.specs.dcd_base.specs.declared.steps.LogId.{LogId}
-use Rattle.extent_list.specs.dcd_codes.specs.declared.rules.Rule.{Rule}
-use Rattle.event_records.specs.declared.events.EventKind.{EventKind}
-use Rattle.extent_list.specs.media_map.specs.region_config.specs.declared.region_spec.RegionSpec.{RegionSpec}
-use Rattle.extent_list.specs.media_map.specs.region_config.specs.Configurations.{Configuration}
-use Rattle.journal_core.specs.declared.outcome.Effect.{Effect}
+use Rattle.extent_list.specs.{dcd_codes.specs.Rules.◌breaks◌, dcd_codes.specs.Rules.each_in, dcd_codes.specs.declared.rules.Rule.Rule, media_map.specs.region_config.specs.Configurations.Configuration}
 use Rattle.extent_list.specs.media_map.specs.region_config.specs.Granules.{region_spec, regions_of, base_of, is_supported, region_granules, first_granule, granule_total, hosts_of}
-use Rattle.extent_list.specs.dcd_codes.specs.Rules.{◌breaks◌, each_in}
-use Rattle.device_rules.specs.Tags.{status, is_free, free_granules, dirty_granules}
-use Rattle.device_rules.specs.Outcomes.{log_full, Outcome, record_for, no_extent}
+use Rattle.extent_list.specs.media_map.specs.region_config.specs.declared.region_spec.RegionSpec.{RegionSpec}
+use Rattle.event_records.specs.declared.events.EventKind.{EventKind}
+use Rattle.journal_core.specs.declared.outcome.Effect.{Effect}
 
 -- members from a place on, as many as asked and no more than fit
 abbrev pub page : {X : Type 0} → ℕ → ℕ → List X → List X

@@ -1,19 +1,11 @@
 -- What the table shows of the tags.
 use Rattle.std.specs.Prelude.{◌≡◌, ℕ, Bool, true, not, ◌==◌, ◌&&◌, ◌||◌, List, length, map}
 use Rattle.std.specs.List.{list_any}
-use Rattle.cci_codec.specs.dcd_base.specs.Words.{has_tag, is_zero_tag}
-use Rattle.cci_codec.specs.dcd_base.specs.declared.capacity.Tag.{Tag}
-use Rattle.extent_list.specs.ExtentLists.{has_extent_of}
+use Rattle.cci_codec.specs.dcd_base.specs.{Words.has_tag, Words.is_zero_tag, declared.capacity.Tag.Tag}
+use Rattle.extent_list.specs.{ExtentLists.has_extent_of, media_map.specs.region_config.specs.Configurations.Configuration, media_map.specs.region_config.specs.Granules.hosts_of}
 use Rattle.journal_core.specs.declared.outcome.Effect.{Effect}
-use Rattle.extent_list.specs.media_map.specs.region_config.specs.Configurations.{Configuration}
-use Rattle.extent_list.specs.media_map.specs.region_config.specs.Granules.{hosts_of}
-use Rattle.tag_refs.specs.Tables.{is_used, passes, has_entry, entry_referenced, tag_view as entry_view}
-use Rattle.tag_refs.specs.declared.entries.TagEntry.{TagEntry}
-use Rattle.device_rules.specs.Adding.{is_open_in}
-use Rattle.device_rules.specs.Hosts.{accepted_of, offers_of}
-use Rattle.device_rules.specs.TagCommands.{tag_seen}
-use Rattle.device_rules.specs.Tags.{is_live, is_referenced, open_tags}
-use Rattle.device_rules.specs.Tabled.{Tabled, past_of}
+use Rattle.tag_refs.specs.{Tables.is_used, Tables.passes, Tables.has_entry, Tables.entry_referenced, Tables.tag_view as entry_view, declared.entries.TagEntry.TagEntry}
+use Rattle.device_rules.specs.{Adding.is_open_in, Hosts.accepted_of, Hosts.offers_of, TagCommands.tag_seen, Tags.is_live, Tags.is_referenced, Tags.open_tags, Tabled.Tabled, Tabled.past_of}
 
 -- The entries are what the manager is to see of the open tags, in order (5608h). A tag has an entry just where it is
 -- open, and it is open in the region that its entry names.

@@ -1,16 +1,11 @@
 -- What every legal journal keeps, so that one more entry keeps the holdings.
 use Rattle.std.specs.Prelude.{◌≡◌, ℕ, ◌+◌, ◌-◌, ◌%◌, ◌<◌, ◌≤◌, true, false, List, [], length, map, count_by, Some}
 use Rattle.std.specs.List.{AllByRecursion}
-use Rattle.cci_codec.specs.dcd_base.specs.declared.capacity.Extent.{Extent}
-use Rattle.cci_codec.specs.dcd_base.specs.declared.capacity.Tag.{Tag}
+use Rattle.cci_codec.specs.dcd_base.specs.{Limits.extents_supported, Words.has_granule, Words.has_in_runs, Words.has_tag, Words.is_zero_tag, declared.capacity.Extent.Extent, declared.capacity.Tag.Tag}
 use Rattle.cci_codec.specs.dcd_base.specs.declared.ids.HostId.{HostId}
-use Rattle.cci_codec.specs.dcd_base.specs.Limits.{extents_supported}
-use Rattle.cci_codec.specs.dcd_base.specs.Words.{has_granule, has_in_runs, has_tag, is_zero_tag}
-use Rattle.extent_list.specs.media_map.specs.region_config.specs.Configurations.{Configuration}
+use Rattle.extent_list.specs.media_map.specs.{Places.region_at, Places.run_of, region_config.specs.Configurations.Configuration}
 use Rattle.extent_list.specs.media_map.specs.region_config.specs.Granules.{base_of, is_supported, region_of, region_spec}
-use Rattle.extent_list.specs.media_map.specs.Places.{region_at, run_of}
-use Rattle.device_rules.specs.Tags.{region_of_offer, tag_runs}
-use Rattle.device_rules.specs.Pictures.{Picture, count_on, extents_at, lives}
+use Rattle.device_rules.specs.{Tags.region_of_offer, Tags.tag_runs, Pictures.Picture, Pictures.count_on, Pictures.extents_at, Pictures.lives}
 
 -- An extent of some bytes in the region, made of pieces of that size.
 pub record IsMade (c : Configuration) (size : ℕ) (h : HostId) (r : ℕ) (x : Extent) : Type 0 where

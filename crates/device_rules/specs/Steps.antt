@@ -1,14 +1,10 @@
 -- What a host's step leaves of the others, and a scrub of the granules that it does not zero.
 use Rattle.std.specs.Prelude.{◌≡◌, ◌≢◌, ℕ, ◌==◌, List, [], ◌∷◌, ◌++◌, if◌then◌else◌}
 use Rattle.std.specs.List.{list_any}
-use Rattle.cci_codec.specs.dcd_base.specs.declared.ids.HostId.{HostId}
-use Rattle.cci_codec.specs.dcd_base.specs.declared.steps.Actor.{Actor}
-use Rattle.journal_core.specs.declared.entries.Entry.{Entry}
-use Rattle.journal_core.specs.declared.outcome.Effect.{Effect}
+use Rattle.cci_codec.specs.dcd_base.specs.declared.{ids.HostId.HostId, steps.Actor.Actor}
+use Rattle.journal_core.specs.declared.{entries.Entry.Entry, outcome.Effect.Effect}
 use Rattle.extent_list.specs.media_map.specs.region_config.specs.Configurations.{Configuration}
-use Rattle.device_rules.specs.Answers.{scrubbed, zeroes}
-use Rattle.device_rules.specs.Tags.{Free, status}
-use Rattle.device_rules.specs.Views.{view_of}
+use Rattle.device_rules.specs.{Answers.scrubbed, Answers.zeroes, Tags.Free, Tags.status, Views.view_of}
 
 -- A step of one host leaves what another host sees.
 abbrev pub IsUnseen : Configuration → List Entry → Entry → HostId → HostId → Type 0

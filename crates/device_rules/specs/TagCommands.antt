@@ -1,19 +1,11 @@
 -- The manager's references, and its list of live tags: 5606h to 5608h.
 use Rattle.std.specs.Prelude.{map, ℕ, ◌^◌, min, Bool, true, false, not, List, [], ◌∷◌, length, sum_by, Option, if◌then◌else◌}
-use Rattle.cci_codec.specs.dcd_base.specs.declared.tags.TagView.{TagView}
-use Rattle.cci_codec.specs.dcd_base.specs.declared.ids.HostId.{HostId}
-use Rattle.cci_codec.specs.dcd_base.specs.declared.capacity.Tag.{Tag}
-use Rattle.extent_list.specs.dcd_codes.specs.declared.rules.Rule.{Rule}
-use Rattle.extent_list.specs.media_map.specs.region_config.specs.Configurations.{Configuration}
-use Rattle.journal_core.specs.declared.outcome.Effect.{Effect}
-use Rattle.cci_codec.specs.dcd_base.specs.Limits.{page_tags}
-use Rattle.cci_codec.specs.dcd_base.specs.Words.{has_tag}
+use Rattle.cci_codec.specs.dcd_base.specs.{declared.tags.TagView.TagView, declared.ids.HostId.HostId, declared.capacity.Tag.Tag, Limits.page_tags, Words.has_tag}
+use Rattle.extent_list.specs.{dcd_codes.specs.Rules.◌breaks◌, dcd_codes.specs.declared.rules.Rule.Rule, media_map.specs.region_config.specs.Configurations.Configuration}
 use Rattle.extent_list.specs.media_map.specs.region_config.specs.Granules.{hosts_of}
-use Rattle.extent_list.specs.dcd_codes.specs.Rules.{◌breaks◌}
-use Rattle.device_rules.specs.Tags.{is_referenced, is_accepted_by, is_offered_to, open_tags}
-use Rattle.device_rules.specs.Outcomes.{Outcome}
+use Rattle.journal_core.specs.declared.outcome.Effect.{Effect}
+use Rattle.device_rules.specs.{Tags.is_referenced, Tags.is_accepted_by, Tags.is_offered_to, Tags.open_tags, Outcomes.Outcome, Settings.page, Settings.past_end}
 use Rattle.fm_payloads.specs.ManagerPayloads.{tags_payload}
-use Rattle.device_rules.specs.Settings.{page, past_end}
 
 abbrev pub add_reference_rule : Configuration → List Effect → Tag → Option Rule
 add_reference_rule c past tag = not (has_tag (open_tags c past) tag) breaks Rule.NoSuchTag

@@ -1,16 +1,10 @@
 -- What the device keeps of the open tags, and how it follows the effects.
-use Rattle.std.specs.Prelude.{◌≡◌, Bool, not, List, map, filter, fold, Some}
-use Rattle.std.specs.List.{AllByRecursion, list_any}
-use Rattle.cci_codec.specs.dcd_base.specs.declared.capacity.Extent.{Extent}
-use Rattle.cci_codec.specs.dcd_base.specs.declared.capacity.Tag.{Tag}
-use Rattle.cci_codec.specs.dcd_base.specs.declared.ids.HostId.{HostId}
-use Rattle.extent_list.specs.media_map.specs.region_config.specs.Configurations.{Configuration}
-use Rattle.extent_list.specs.ExtentLists.{has_extent_of}
+use Rattle.std.specs.{Prelude.◌≡◌, Prelude.Bool, Prelude.not, Prelude.List, Prelude.map, Prelude.filter, Prelude.fold, Prelude.Some, List.AllByRecursion, List.list_any}
+use Rattle.cci_codec.specs.dcd_base.specs.declared.{capacity.Extent.Extent, capacity.Tag.Tag, ids.HostId.HostId}
+use Rattle.extent_list.specs.{media_map.specs.region_config.specs.Configurations.Configuration, ExtentLists.has_extent_of}
 use Rattle.journal_core.specs.declared.outcome.Effect.{Effect}
-use Rattle.tag_refs.specs.declared.entries.TagEntry.{TagEntry}
-use Rattle.tag_refs.specs.Tables.{entries_changed, is_used, passes, set_by, still_used}
-use Rattle.device_rules.specs.TagCommands.{host_bits}
-use Rattle.device_rules.specs.Tags.{is_accepted_by, is_offered_to, is_referenced, last_offer, open_tags, tag_region, tag_runs}
+use Rattle.tag_refs.specs.{declared.entries.TagEntry.TagEntry, Tables.entries_changed, Tables.is_used, Tables.passes, Tables.set_by, Tables.still_used}
+use Rattle.device_rules.specs.{TagCommands.host_bits, Tags.is_accepted_by, Tags.is_offered_to, Tags.is_referenced, Tags.last_offer, Tags.open_tags, Tags.tag_region, Tags.tag_runs}
 
 -- The entry is what the effects so far say of its tag.
 pub record IsEntry (c : Configuration) (past : List Effect) (e : TagEntry) : Type 0 where

@@ -1,20 +1,12 @@
 -- How the table follows a command that breaks no rule.
 use Rattle.std.specs.Prelude.{◌≡◌, ℕ, true, false, not, List, [], ◌∷◌, ◌++◌, map, if◌then◌else◌}
-use Rattle.cci_codec.specs.dcd_base.specs.declared.capacity.Extent.{Extent}
-use Rattle.cci_codec.specs.dcd_base.specs.declared.capacity.Tag.{Tag}
-use Rattle.cci_codec.specs.dcd_base.specs.declared.ids.HostId.{HostId}
+use Rattle.cci_codec.specs.dcd_base.specs.declared.{capacity.Extent.Extent, capacity.Tag.Tag, ids.HostId.HostId}
 use Rattle.journal_core.specs.declared.outcome.Effect.{Effect}
-use Rattle.extent_list.specs.media_map.specs.Places.{run_of}
-use Rattle.extent_list.specs.media_map.specs.region_config.specs.Configurations.{Configuration}
-use Rattle.extent_list.specs.media_map.specs.region_config.specs.Granules.{region_spec}
-use Rattle.tag_refs.specs.Tables.{entries_changed, has_entry, is_used, opened, passes, still_used, with_reference}
-use Rattle.tag_refs.specs.declared.entries.TagEntry.{TagEntry}
-use Rattle.device_rules.specs.Adding.{offered}
-use Rattle.device_rules.specs.Hosts.{accepted_of, offers_of}
-use Rattle.device_rules.specs.Outcomes.{Outcome, effects_of, ended}
+use Rattle.extent_list.specs.media_map.specs.{Places.run_of, region_config.specs.Configurations.Configuration, region_config.specs.Granules.region_spec}
+use Rattle.tag_refs.specs.{Tables.entries_changed, Tables.has_entry, Tables.is_used, Tables.opened, Tables.passes, Tables.still_used, Tables.with_reference, declared.entries.TagEntry.TagEntry}
+use Rattle.device_rules.specs.{Adding.offered, Hosts.accepted_of, Hosts.offers_of, Outcomes.Outcome, Outcomes.effects_of, Outcomes.ended, Tabled.OfferDoes, Tabled.Tabled, Tabled.past_of}
 use Rattle.device_rules.specs.TagCommands.{add_reference_outcome, remove_reference_outcome}
 use Rattle.device_rules.specs.TagTable.{IsTable, among, among_offers, ending, host_of_tags_set}
-use Rattle.device_rules.specs.Tabled.{OfferDoes, Tabled, past_of}
 
 -- Of the tags that may end by the command, what the host has of them after its changes is set anew: those end of which
 -- the entry is used no more, and the table is right after the command.

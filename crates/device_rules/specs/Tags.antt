@@ -1,18 +1,12 @@
 -- Tags, and the status of a granule.
 use Rattle.std.specs.Prelude.{ℕ, Bool, true, false, ◌&&◌, ◌||◌, not, List, [], ◌∷◌, ◌++◌, map, filter, fold, Option, Some, None, if◌then◌else◌}
 use Rattle.std.specs.List.{list_any, range_with_len}
-use Rattle.cci_codec.specs.dcd_base.specs.declared.ids.HostId.{HostId}
-use Rattle.cci_codec.specs.dcd_base.specs.declared.capacity.Tag.{Tag}
-use Rattle.cci_codec.specs.dcd_base.specs.declared.capacity.Extent.{Extent}
+use Rattle.cci_codec.specs.dcd_base.specs.{Words.same_tag, Words.has_tag, Words.is_zero_tag, Words.has_in_runs, declared.capacity.Extent.Extent, declared.capacity.Tag.Tag, declared.ids.HostId.HostId}
 use Rattle.cci_codec.specs.dcd_base.specs.declared.media.Run.{Run}
-use Rattle.extent_list.specs.media_map.specs.region_config.specs.Configurations.{Configuration}
-use Rattle.journal_core.specs.declared.outcome.Effect.{Effect}
-use Rattle.cci_codec.specs.dcd_base.specs.Words.{same_tag, has_tag, is_zero_tag, has_in_runs}
+use Rattle.extent_list.specs.{ExtentLists.has_extent_of, media_map.specs.Places.region_at, media_map.specs.Places.run_of, media_map.specs.region_config.specs.Configurations.Configuration}
 use Rattle.extent_list.specs.media_map.specs.region_config.specs.Granules.{region_spec, granule_total, region_of, hosts_of}
-use Rattle.extent_list.specs.media_map.specs.Places.{region_at, run_of}
-use Rattle.journal_core.specs.Holders.{holds, is_taken, is_soiled}
+use Rattle.journal_core.specs.{declared.outcome.Effect.Effect, Holders.holds, Holders.is_taken, Holders.is_soiled}
 use Rattle.device_rules.specs.Hosts.{offers_of, accepted_of}
-use Rattle.extent_list.specs.ExtentLists.{has_extent_of}
 
 -- the last offer with the tag, and its host
 abbrev pub last_offer_after : Tag → Option (HostId × List Extent) → Effect → Option (HostId × List Extent)

@@ -1,21 +1,12 @@
 -- What one host can see, and how an entry changes it.
 use Rattle.std.specs.Prelude.{◌%◌, ◌^◌, ℕ, ◌+◌, ◌-◌, List, [], ◌++◌, length, flat_map, fold, if◌then◌else◌}
-use Rattle.cci_codec.specs.dcd_base.specs.Limits.{extents_supported, tags_supported}
+use Rattle.cci_codec.specs.dcd_base.specs.{Limits.extents_supported, Limits.tags_supported, declared.ids.HostId.HostId, declared.capacity.Extent.Extent, declared.steps.LogId.LogId}
 use Rattle.std.specs.List.{list_any}
-use Rattle.cci_codec.specs.dcd_base.specs.declared.ids.HostId.{HostId}
-use Rattle.cci_codec.specs.dcd_base.specs.declared.capacity.Extent.{Extent}
-use Rattle.cci_codec.specs.dcd_base.specs.declared.steps.LogId.{LogId}
-use Rattle.extent_list.specs.media_map.specs.region_config.specs.Configurations.{Configuration}
-use Rattle.journal_core.specs.declared.outcome.HeldKind.{HeldKind}
-use Rattle.journal_core.specs.declared.outcome.Effect.{Effect}
-use Rattle.journal_core.specs.declared.entries.Entry.{Entry}
-use Rattle.extent_list.specs.media_map.specs.region_config.specs.Granules.{region_spec}
-use Rattle.journal_core.specs.Entries.{effects}
+use Rattle.extent_list.specs.{media_map.specs.region_config.specs.Configurations.Configuration, media_map.specs.region_config.specs.Granules.region_spec, ExtentLists.real_tags, HostLists.Lists}
+use Rattle.journal_core.specs.{declared.outcome.HeldKind.HeldKind, declared.outcome.Effect.Effect, declared.entries.Entry.Entry, Entries.effects}
 use Rattle.device_rules.specs.Hosts.{offers_after, offers_of, accepted_after, accepted_of, moves, changes_of, held_after, held_of, block_after, block_of}
 use Rattle.event_log.specs.Logs.{Log, empty_log}
 use Rattle.device_rules.specs.Logs.{log_after, log_of}
-use Rattle.extent_list.specs.ExtentLists.{real_tags}
-use Rattle.extent_list.specs.HostLists.{Lists}
 
 -- all that the answers to one host's commands depend on, beside the configuration
 pub record View : Type 0 where

@@ -1,44 +1,22 @@
 -- The effects of every legal step name hosts and regions of the device alone, and block sizes that regions support.
 use Rattle.std.proofs.Common.{◌≡◌, ℕ, zero, suc, ◌+◌, ◌<◌, ◌≤◌, Bool, true, false, List, [], ◌∷◌, Option, Some, None, refl, sym, ap, subst, ◌∙◌, arith, leb, ltb, length}
-use Rattle.std.specs.Prelude.{All, map, not, ◌&&◌, IsTrue}
-use Rattle.std.specs.List.{AllByRecursion, list_all, range_with_len}
-use Rattle.std.specs.declared.result.Result.{Result}
+use Rattle.std.proofs.lemmas.{Bool.and_parts, Bool.leb-false, Bool.lt-ltb, Bool.ltb-true, Bool.not-false, List.Elements.All-from_recursion}
+use Rattle.std.specs.{List.AllByRecursion, List.list_all, List.range_with_len, Prelude.All, Prelude.map, Prelude.not, Prelude.◌&&◌, Prelude.IsTrue, declared.result.Result.Result}
 use Rattle.std.specs.declared.result.Result.TheVariants.{Ok, Err}
-use Rattle.std.proofs.lemmas.Bool.{and_parts, leb-false, lt-ltb, ltb-true, not-false}
-use Rattle.std.proofs.lemmas.List.Elements.{All-from_recursion}
-use Rattle.cci_codec.specs.dcd_base.specs.declared.capacity.Extent.{Extent}
-use Rattle.cci_codec.specs.dcd_base.specs.declared.capacity.Tag.{Tag}
-use Rattle.cci_codec.specs.dcd_base.specs.declared.ids.HostId.{HostId}
-use Rattle.cci_codec.specs.dcd_base.specs.declared.steps.Actor.{Actor}
-use Rattle.cci_codec.specs.dcd_base.specs.declared.steps.LogId.{LogId}
-use Rattle.extent_list.specs.dcd_codes.specs.Rules.{◌breaks◌}
-use Rattle.extent_list.specs.dcd_codes.specs.declared.rules.Rule.{Rule}
-use Rattle.event_records.specs.declared.events.Event.{Event}
-use Rattle.event_records.specs.declared.events.EventKind.{EventKind}
-use Rattle.fm_payloads.specs.ManagerPayloads.{manager_request}
-use Rattle.cci_codec.specs.dcd_base.specs.declared.faults.PayloadFault.{PayloadFault as ManagerFault}
-use Rattle.fm_payloads.specs.declared.requests.FmRequest.{FmRequest}
-use Rattle.host_payloads.specs.HostPayloads.{host_request}
-use Rattle.cci_codec.specs.dcd_base.specs.declared.faults.PayloadFault.{PayloadFault as HostFault}
-use Rattle.host_payloads.specs.declared.requests.HostRequest.{HostRequest}
-use Rattle.journal_core.specs.Entries.{effects, fits}
-use Rattle.journal_core.specs.declared.acts.Act.{Act}
-use Rattle.journal_core.specs.declared.entries.Entry.{Entry}
-use Rattle.journal_core.specs.declared.outcome.Effect.{Effect}
-use Rattle.extent_list.specs.media_map.specs.region_config.proofs.Searches.{or_parts}
-use Rattle.extent_list.specs.media_map.specs.region_config.specs.Configurations.{Configuration}
-use Rattle.extent_list.specs.media_map.specs.region_config.specs.Granules.{is_supported, region_spec}
+use Rattle.cci_codec.specs.dcd_base.specs.declared.{capacity.Extent.Extent, capacity.Tag.Tag, faults.PayloadFault.PayloadFault as ManagerFault, faults.PayloadFault.PayloadFault as HostFault}
+use Rattle.cci_codec.specs.dcd_base.specs.declared.{ids.HostId.HostId, steps.Actor.Actor, steps.LogId.LogId}
+use Rattle.extent_list.specs.{dcd_codes.specs.Rules.◌breaks◌, dcd_codes.specs.declared.rules.Rule.Rule, media_map.specs.region_config.proofs.Searches.or_parts}
+use Rattle.extent_list.specs.media_map.specs.region_config.specs.{Configurations.Configuration, Granules.is_supported, Granules.region_spec}
+use Rattle.event_records.specs.declared.events.{Event.Event, EventKind.EventKind}
+use Rattle.fm_payloads.specs.{ManagerPayloads.manager_request, declared.requests.FmRequest.FmRequest}
+use Rattle.host_payloads.specs.{HostPayloads.host_request, declared.requests.HostRequest.HostRequest}
+use Rattle.journal_core.specs.{Entries.effects, Entries.fits, declared.acts.Act.Act, declared.entries.Entry.Entry, declared.outcome.Effect.Effect}
 use Rattle.device_rules.specs.Answers.{dropped, effects_with, host_outcome, host_result, host_rule, manager_outcome, manager_result, manager_rule, scrubbed, unless}
-use Rattle.device_rules.specs.Legal.{Legal, Meets, right_answer}
-use Rattle.device_rules.specs.Logs.{log_of}
+use Rattle.device_rules.{proofs.Adding.row_of, proofs.LogOutcomes.whole, specs.Legal.Legal, specs.Legal.Meets, specs.Legal.right_answer, specs.Logs.log_of}
 use Rattle.device_rules.specs.Outcomes.{Outcome, effects_of, log_full, no_extent, record_for}
 use Rattle.device_rules.specs.ReleaseOutcomes.{is_cleaning, is_forced, policy_in, remove_rule, removed}
-use Rattle.device_rules.specs.Settings.{no_such_region, set_rule}
-use Rattle.device_rules.specs.Tags.{is_referenced}
-use Rattle.device_rules.specs.Views.{View, view_of}
-use Rattle.device_rules.proofs.Adding.{row_of}
+use Rattle.device_rules.specs.{Settings.no_such_region, Settings.set_rule, Tags.is_referenced, Views.View, Views.view_of}
 use Rattle.device_rules.proofs.EffectKinds.{PassClearing, PassHeld, PassLists, PassRecords, clear_passes, dropped_passes, host_passes, outcome_passes, reference_passes, removals_pass, tells, zeroes_pass}
-use Rattle.device_rules.proofs.LogOutcomes.{whole}
 use Rattle.device_state.specs.Updates.{IsOfDevice, IsOfLog}
 
 -- ---- the same as a test

@@ -1,19 +1,10 @@
 -- Entering a legal step keeps what is kept, and each of its effects is of the device.
-use Rattle.std.proofs.Common.{List, [], ◌∷◌, ◌++◌}
-use Rattle.std.specs.Prelude.{All}
+use Rattle.std.{proofs.Common.List, proofs.Common.[], proofs.Common.◌∷◌, proofs.Common.◌++◌, specs.Prelude.All}
 use Rattle.journal_core.specs.declared.entries.Entry.{Entry}
-use Rattle.extent_list.specs.media_map.specs.region_config.specs.Configurations.{Configuration}
-use Rattle.extent_list.specs.media_map.specs.region_config.specs.Soundness.{IsSound}
-use Rattle.device_rules.proofs.GranuleCommands.{granules_kept}
-use Rattle.device_rules.specs.Legal.{Legal, Meets}
-use Rattle.device_state.specs.Entered.{IsEntered}
-use Rattle.device_state.specs.StateAfter.{IsStateAfter}
-use Rattle.device_state.specs.Updates.{IsOfDevice}
-use Rattle.device_state.specs.declared.state.State.{State}
-use Rattle.device_state.proofs.DeviceEffects.{of_device as legal_of_device}
-use Rattle.device_state.specs.EnteredLists.{Fits, lists_of}
-use Rattle.device_state.proofs.Fitting.{room_for_all}
-use Rattle.device_state.proofs.Keeping.{kept-entered as step_kept}
+use Rattle.extent_list.specs.media_map.specs.region_config.specs.{Configurations.Configuration, Soundness.IsSound}
+use Rattle.device_rules.{proofs.GranuleCommands.granules_kept, specs.Legal.Legal, specs.Legal.Meets}
+use Rattle.device_state.{proofs.DeviceEffects.of_device as legal_of_device, proofs.Fitting.room_for_all, proofs.Keeping.kept-entered as step_kept, specs.Entered.IsEntered}
+use Rattle.device_state.specs.{EnteredLists.Fits, EnteredLists.lists_of, StateAfter.IsStateAfter, Updates.IsOfDevice, declared.state.State.State}
 
 pub of_device : (c : Configuration) → IsSound c → (before : List Entry) → Legal c before → (e : Entry) → Meets c before e → All (IsOfDevice c) e.effects
 of_device c sound before legal e meets = legal_of_device c before e legal meets

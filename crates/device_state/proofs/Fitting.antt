@@ -1,64 +1,30 @@
 -- Every legal step finds a place for all that it adds.
 use Rattle.std.proofs.Common.{◌≡◌, ℕ, ◌+◌, ◌-◌, ◌<◌, ◌≤◌, Bool, true, false, ◌==◌, List, [], ◌∷◌, ◌++◌, None, filter, flat_map, length, map, ltb, append_assoc, length-append, refl, sym, ap, subst, ◌∙◌, arith}
-use Rattle.std.specs.Prelude.{if◌then◌else◌, All, IsTrue}
-use Rattle.std.specs.List.{AllByRecursion, list_all}
-use Rattle.std.proofs.lemmas.Bool.{and_parts, eq-eqb, false≢true, ltb-false}
-use Rattle.std.proofs.lemmas.List.{length-map}
-use Rattle.std.proofs.lemmas.List.Concat.{length-flat_map}
-use Rattle.std.proofs.lemmas.List.Elements.{All-from_recursion}
-use Rattle.cci_codec.specs.dcd_base.specs.declared.capacity.Extent.{Extent}
-use Rattle.cci_codec.specs.dcd_base.specs.declared.capacity.Tag.{Tag}
-use Rattle.cci_codec.specs.dcd_base.specs.declared.ids.HostId.{HostId}
-use Rattle.cci_codec.specs.dcd_base.specs.declared.media.Run.{Run}
+use Rattle.std.proofs.lemmas.{Bool.and_parts, Bool.eq-eqb, Bool.false≢true, Bool.ltb-false, List.length-map, List.Concat.length-flat_map, List.Elements.All-from_recursion}
+use Rattle.std.specs.{List.AllByRecursion, List.list_all, Prelude.if◌then◌else◌, Prelude.All, Prelude.IsTrue}
+use Rattle.cci_codec.specs.dcd_base.specs.{Words.same_tag, Words.◌or◌, declared.capacity.Extent.Extent, declared.capacity.Tag.Tag, declared.ids.HostId.HostId, declared.media.Run.Run}
 use Rattle.cci_codec.specs.dcd_base.specs.declared.steps.LogId.{LogId}
-use Rattle.cci_codec.specs.dcd_base.specs.Words.{same_tag}
-use Rattle.extent_list.specs.dcd_codes.specs.declared.rules.Rule.{Rule}
-use Rattle.extent_list.specs.ExtentLists.{count_in, cut, has_range, marked, piece}
-use Rattle.fm_payloads.specs.declared.requests.FmRequest.{FmRequest}
-use Rattle.extent_list.specs.HostLists.{Lists}
-use Rattle.host_payloads.specs.declared.requests.HostRequest.{HostRequest}
-use Rattle.journal_core.specs.Entries.{effects}
-use Rattle.journal_core.specs.declared.entries.Entry.{Entry}
-use Rattle.journal_core.specs.declared.outcome.Effect.{Effect}
-use Rattle.journal_core.specs.declared.outcome.HeldKind.{HeldKind}
-use Rattle.extent_list.specs.Listing.{incomplete, too_many_extents, too_many_listed}
-use Rattle.offer_core.proofs.Counting.{count_in-cons}
+use Rattle.extent_list.specs.{ExtentLists.count_in, ExtentLists.cut, ExtentLists.has_range, ExtentLists.marked, ExtentLists.piece, HostLists.Lists}
+use Rattle.extent_list.specs.{Listing.incomplete, Listing.too_many_extents, Listing.too_many_listed, dcd_codes.specs.Rules.each_in, dcd_codes.specs.declared.rules.Rule.Rule}
 use Rattle.extent_list.specs.media_map.proofs.RunLemmas.{granular_from}
-use Rattle.extent_list.specs.media_map.specs.Places.{IsRun, bytes_of_run, is_granular, region_at, run_of, start_of}
-use Rattle.extent_list.specs.media_map.specs.region_config.specs.Configurations.{Configuration}
-use Rattle.extent_list.specs.media_map.specs.region_config.specs.Granules.{with_blocks}
-use Rattle.extent_list.specs.media_map.specs.region_config.specs.Soundness.{IsSound}
-use Rattle.cci_codec.specs.dcd_base.specs.Words.{◌or◌}
-use Rattle.extent_list.specs.dcd_codes.specs.Rules.{each_in}
-use Rattle.release_core.specs.Leaving.{count_after}
-use Rattle.release_core.specs.Removals.{by_tag_rule, extents_of_tag, prescribed_removal_rule}
-use Rattle.device_rules.specs.Adding.{offered}
-use Rattle.device_rules.specs.Answers.{host_outcome, host_rule, manager_outcome, manager_rule, scrubbed, zeroes}
-use Rattle.device_rules.specs.Legal.{Legal, Meets}
-use Rattle.device_rules.specs.Logs.{log_of}
-use Rattle.device_rules.specs.Outcomes.{Outcome, effects_of, ended, entered_all}
-use Rattle.device_rules.specs.ReleaseOutcomes.{is_cleaning, is_forced, leaves, policy_in, removals}
-use Rattle.device_rules.specs.ResponseOutcomes.{answered, hold, unhold}
-use Rattle.device_rules.specs.Tags.{is_referenced}
-use Rattle.device_rules.specs.Views.{View, view_of, lists_in}
-use Rattle.device_rules.proofs.EffectKinds.{PassClearing, PassRecords, any_log, clear_passes, reference_passes, tells_any, told_passes, zeroes_pass}
-use Rattle.device_rules.proofs.Leaving.{both_pass, map_passes}
-use Rattle.device_rules.proofs.LegalSteps.{Cases, step_case}
+use Rattle.extent_list.specs.media_map.specs.{Places.IsRun, Places.bytes_of_run, Places.is_granular, Places.region_at, Places.run_of, Places.start_of, region_config.specs.Configurations.Configuration}
+use Rattle.extent_list.specs.media_map.specs.region_config.specs.{Granules.with_blocks, Soundness.IsSound}
+use Rattle.fm_payloads.specs.declared.requests.FmRequest.{FmRequest}
+use Rattle.host_payloads.specs.declared.requests.HostRequest.{HostRequest}
+use Rattle.journal_core.specs.{Entries.effects, declared.entries.Entry.Entry, declared.outcome.Effect.Effect, declared.outcome.HeldKind.HeldKind}
+use Rattle.offer_core.proofs.Counting.{count_in-cons}
+use Rattle.release_core.{specs.Leaving.count_after, specs.Removals.by_tag_rule, specs.Removals.extents_of_tag, specs.Removals.prescribed_removal_rule, proofs.Members.neither}
 use Rattle.device_rules.proofs.Adding.{added, row_of}
-use Rattle.device_rules.proofs.Going.{IsGoing, some_going}
-use Rattle.device_rules.proofs.Holding.{present_whole}
-use Rattle.device_rules.proofs.Homes.{made_granular, made_is_run, made_region}
-use Rattle.device_rules.proofs.LeftStanding.{going_of, going_rule}
-use Rattle.device_rules.proofs.LegalSound.{legal_is_sound}
-use Rattle.device_rules.proofs.OneLeave.{loose}
-use Rattle.device_rules.proofs.Overlaps.{not_broken}
-use Rattle.release_core.proofs.Members.{neither}
-use Rattle.device_rules.specs.Pictures.{Picture, extents_at, picture_of}
-use Rattle.device_rules.specs.Standing.{IsMade, IsTogether, Stands}
-use Rattle.device_rules.proofs.LeavingSteps.{removal_row}
-use Rattle.device_state.specs.EnteredLists.{Fits, HasPlaces, all_lists_by, lists_of, room_by}
-use Rattle.device_state.specs.StateAfter.{IsStateAfter}
-use Rattle.device_state.specs.declared.state.State.{State}
+use Rattle.device_rules.proofs.EffectKinds.{PassClearing, PassRecords, any_log, clear_passes, reference_passes, tells_any, told_passes, zeroes_pass}
+use Rattle.device_rules.proofs.{Going.IsGoing, Going.some_going, Holding.present_whole, Homes.made_granular, Homes.made_is_run, Homes.made_region, Leaving.both_pass, Leaving.map_passes}
+use Rattle.device_rules.proofs.{LeavingSteps.removal_row, LeftStanding.going_of, LeftStanding.going_rule, LegalSound.legal_is_sound, LegalSteps.Cases, LegalSteps.step_case, OneLeave.loose}
+use Rattle.device_rules.{proofs.Overlaps.not_broken, specs.Adding.offered}
+use Rattle.device_rules.specs.{Answers.host_outcome, Answers.host_rule, Answers.manager_outcome, Answers.manager_rule, Answers.scrubbed, Answers.zeroes, Legal.Legal, Legal.Meets, Logs.log_of}
+use Rattle.device_rules.specs.{Outcomes.Outcome, Outcomes.effects_of, Outcomes.ended, Outcomes.entered_all, Pictures.Picture, Pictures.extents_at, Pictures.picture_of}
+use Rattle.device_rules.specs.ReleaseOutcomes.{is_cleaning, is_forced, leaves, policy_in, removals}
+use Rattle.device_rules.specs.{ResponseOutcomes.answered, ResponseOutcomes.hold, ResponseOutcomes.unhold, Standing.IsMade, Standing.IsTogether, Standing.Stands, Tags.is_referenced}
+use Rattle.device_rules.specs.Views.{View, view_of, lists_in}
+use Rattle.device_state.specs.{EnteredLists.Fits, EnteredLists.HasPlaces, EnteredLists.all_lists_by, EnteredLists.lists_of, EnteredLists.room_by, StateAfter.IsStateAfter, declared.state.State.State}
 
 -- ---- effects that need no place
 

@@ -1,12 +1,7 @@
 -- The extent that is found is the one at its place.
 use Rattle.std.proofs.Common.{◌≡◌, ℕ, ◌+◌, Bool, inl, inr, List, [], ◌∷◌, Some, None, get_or, slice_get, sym, ap, refl, ◌∙◌, arith}
+use Rattle.std.proofs.lemmas.{Bool.cases_Bool, Iterator.Adapters.position_from-zero, List.Folds.find_at, List.Quantifiers.position-Some, List.Sums.position_or_len_is, Option.slice_get-get_or}
 use Rattle.std.specs.List.{find, position, position_from}
-use Rattle.std.proofs.lemmas.Bool.{cases_Bool}
-use Rattle.std.proofs.lemmas.Iterator.Adapters.{position_from-zero}
-use Rattle.std.proofs.lemmas.List.Folds.{find_at}
-use Rattle.std.proofs.lemmas.List.Quantifiers.{position-Some}
-use Rattle.std.proofs.lemmas.List.Sums.{position_or_len_is}
-use Rattle.std.proofs.lemmas.Option.{slice_get-get_or}
 use Rattle.cci_codec.specs.dcd_base.specs.declared.capacity.Extent.{Extent}
 
 pub found-at : (p : Extent → Bool) (xs : List Extent) (i : ℕ) (d : Extent) → position p xs ≡ Some i → find p xs ≡ Some (get_or xs i d)

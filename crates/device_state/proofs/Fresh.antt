@@ -1,27 +1,15 @@
 -- What a device keeps at first.
 use Rattle.std.proofs.Common.{◌≡◌, ℕ, ◌<◌, Bool, true, false, ◌&&◌, ◌||◌, not, List, [], ◌∷◌, length, get_or, replicate, refl, ap, sym, subst, ◌∙◌, arith}
-use Rattle.std.specs.Prelude.{◌==◌, if◌then◌else◌}
-use Rattle.std.specs.List.{enumerate_from, list_any}
-use Rattle.std.proofs.lemmas.List.{ext_get_or, get_or-replicate, length-map, length-replicate}
-use Rattle.std.proofs.lemmas.List.FromFn.{length-enumerate_from}
-use Rattle.std.proofs.lemmas.Nat.Bits.{bit_at-zero}
-use Rattle.cci_codec.specs.dcd_base.specs.declared.ids.HostId.{HostId}
-use Rattle.cci_codec.specs.dcd_base.specs.declared.steps.LogId.{LogId}
-use Rattle.event_log.proofs.Histories.{begins}
-use Rattle.event_log.specs.Logs.{empty_log, IsLogOf}
-use Rattle.device_rules.specs.GranuleCells.{IsCell}
-use Rattle.granule_map.specs.declared.states.GranuleState.{GranuleState}
-use Rattle.granule_map.specs.Tables.{CellTable, cell_at}
-use Rattle.device_state.specs.StateAfter.{IsStateAfter, IsPart, no_part}
-use Rattle.extent_list.specs.media_map.specs.region_config.specs.Configurations.{Configuration}
-use Rattle.extent_list.specs.media_map.specs.region_config.specs.declared.region_spec.RegionSpec.{RegionSpec}
+use Rattle.std.proofs.lemmas.{List.ext_get_or, List.get_or-replicate, List.length-map, List.length-replicate, List.FromFn.length-enumerate_from, Nat.Bits.bit_at-zero}
+use Rattle.std.specs.{List.enumerate_from, List.list_any, Prelude.◌==◌, Prelude.if◌then◌else◌}
+use Rattle.cci_codec.specs.dcd_base.specs.{declared.ids.HostId.HostId, declared.steps.LogId.LogId, Hosts.has_host}
+use Rattle.event_log.{proofs.Histories.begins, specs.Logs.empty_log, specs.Logs.IsLogOf}
+use Rattle.device_rules.specs.{GranuleCells.IsCell, Tags.Dirty, Tags.Free, Tags.Held, Tags.Offered, Tags.Status, Tags.Tagged, Tags.is_offered, Tags.status, Views.view_of, TagTable.IsTable}
+use Rattle.granule_map.specs.{declared.states.GranuleState.GranuleState, Tables.CellTable, Tables.cell_at}
+use Rattle.device_state.specs.{StateAfter.IsStateAfter, StateAfter.IsPart, StateAfter.no_part, declared.state.State.State}
+use Rattle.extent_list.specs.media_map.specs.region_config.{proofs.PresentBlocks.region_spec-with_blocks, specs.Configurations.Configuration}
 use Rattle.extent_list.specs.media_map.specs.region_config.specs.Granules.{granule_total, hosts_of, no_region, region_of, region_spec, with_blocks}
-use Rattle.extent_list.specs.media_map.specs.region_config.proofs.PresentBlocks.{region_spec-with_blocks}
-use Rattle.device_rules.specs.Tags.{Dirty, Free, Held, Offered, Status, Tagged, is_offered, status}
-use Rattle.device_rules.specs.Views.{view_of}
-use Rattle.cci_codec.specs.dcd_base.specs.Hosts.{has_host}
-use Rattle.device_rules.specs.TagTable.{IsTable}
-use Rattle.device_state.specs.declared.state.State.{State}
+use Rattle.extent_list.specs.media_map.specs.region_config.specs.declared.region_spec.RegionSpec.{RegionSpec}
 
 -- the configuration with its own blocks
 pub own_blocks : (c : Configuration) → with_blocks c (λ r. (region_spec c r).block) ≡ c

@@ -1,21 +1,12 @@
 -- Who holds a granule, by the bit of each host, after the effects of a step.
 use Rattle.std.proofs.Common.{◌≡◌, ◌≢◌, ◌⊎◌, ℕ, ◌+◌, ◌-◌, ◌/◌, ◌%◌, ◌^◌, ◌<◌, ◌≤◌, ◌==◌, Bool, true, false, List, [], ◌∷◌, length, get_or, refl, sym, ap, subst, ◌∙◌, inl, inr, arith, pow_pos}
+use Rattle.std.proofs.{Math.Nat.div-eq-sub-div, Math.Nat.div-eq_of_lt, lemmas.Bool.cases_eq, lemmas.Bool.cases_lt, lemmas.Bool.eq-eqb, lemmas.Bool.ne_eqb}
+use Rattle.std.{proofs.lemmas.Nat.Bits.bit_at-lt, proofs.lemmas.Nat.Bits.bit_at_set_other, proofs.lemmas.Nat.Bits.bit_at_set_same, specs.Int.bit_at, specs.Int.w16, specs.List.AllByRecursion}
 use Rattle.std.specs.Prelude.{fold, if◌then◌else◌, ◌&&◌}
-use Rattle.std.specs.Int.{bit_at, w16}
-use Rattle.std.specs.List.{AllByRecursion}
-use Rattle.std.proofs.lemmas.Bool.{cases_eq, cases_lt, eq-eqb, ne_eqb}
-use Rattle.std.proofs.lemmas.Nat.Bits.{bit_at-lt, bit_at_set_other, bit_at_set_same}
-use Rattle.std.proofs.Math.Nat.{div-eq-sub-div, div-eq_of_lt}
-use Rattle.cci_codec.specs.dcd_base.specs.Words.{has_granule}
-use Rattle.cci_codec.specs.dcd_base.specs.declared.ids.HostId.{HostId}
-use Rattle.journal_core.specs.Holders.{holding_after}
-use Rattle.journal_core.specs.declared.outcome.Effect.{Effect}
+use Rattle.cci_codec.specs.dcd_base.{specs.Words.has_granule, specs.declared.ids.HostId.HostId, specs.Hosts.has_host, specs.Hosts.with_host, specs.Hosts.without_host, proofs.HostBits.or_host}
+use Rattle.journal_core.specs.{Holders.holding_after, declared.outcome.Effect.Effect}
 use Rattle.extent_list.specs.media_map.specs.region_config.specs.Configurations.{Configuration}
-use Rattle.cci_codec.specs.dcd_base.specs.Hosts.{has_host, with_host, without_host}
-use Rattle.cci_codec.specs.dcd_base.proofs.HostBits.{or_host}
-use Rattle.device_state.specs.Entered.{holders_by}
-use Rattle.device_state.specs.Updates.{IsOfDevice}
-use Rattle.device_state.proofs.HolderSteps.{held_in-at, length-held_in}
+use Rattle.device_state.{specs.Entered.holders_by, specs.Updates.IsOfDevice, proofs.HolderSteps.held_in-at, proofs.HolderSteps.length-held_in}
 
 -- ---- one host more, or one fewer
 

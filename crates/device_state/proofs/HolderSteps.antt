@@ -1,12 +1,9 @@
 -- The holders of the granules, one by one.
 use Rattle.std.proofs.Common.{◌≡◌, ℕ, ◌+◌, ◌<◌, ◌≤◌, Bool, true, false, cond, leb, ltb, List, length, get_or, set, min, refl, sym, ap, ◌∙◌, inl, inr, arith}
-use Rattle.std.specs.Prelude.{◌&&◌, if◌then◌else◌}
-use Rattle.std.specs.List.{enumerate_from}
 use Rattle.std.proofs.lemmas.Bool.{and_right, cases_eq, cases_lt, le-leb, le-ltb, lt-leb, lt-ltb}
-use Rattle.std.proofs.lemmas.List.{ext_get_or, get_or-map, get_or-set_other, get_or-set_same, length-map}
-use Rattle.std.proofs.lemmas.List.FromFn.{get_or-enumerate_from, length-enumerate_from}
-use Rattle.cci_codec.specs.dcd_base.specs.Words.{has_granule}
-use Rattle.cci_codec.specs.dcd_base.specs.declared.media.Run.{Run}
+use Rattle.std.proofs.lemmas.List.{ext_get_or, get_or-map, get_or-set_other, get_or-set_same, length-map, FromFn.get_or-enumerate_from, FromFn.length-enumerate_from}
+use Rattle.std.specs.{List.enumerate_from, Prelude.◌&&◌, Prelude.if◌then◌else◌}
+use Rattle.cci_codec.specs.dcd_base.specs.{Words.has_granule, declared.media.Run.Run}
 use Rattle.device_state.specs.Entered.{held_in}
 
 pub length-held_in : (change : ℕ → ℕ) (run : Run) (bits : List ℕ) → length (held_in change run bits) ≡ length bits

@@ -1,58 +1,25 @@
 -- What is kept is what the entries so far say, also once one more legal entry is entered.
 use Rattle.std.proofs.Common.{◌≡◌, ℕ, ◌+◌, ◌%◌, ◌^◌, ◌<◌, ◌≤◌, Bool, true, false, ◌==◌, List, [], ◌∷◌, ◌++◌, length, get_or, inl, inr, refl, ap, sym, subst, ◌∙◌, arith}
-use Rattle.std.specs.Prelude.{fold, map, Some, if◌then◌else◌}
-use Rattle.std.specs.Cmp.Lexicographic.{same_text}
-use Rattle.std.specs.List.{AllByRecursion, list_any}
-use Rattle.std.proofs.Math.Nat.{mod-add-mod}
-use Rattle.std.proofs.lemmas.Bool.{cases_eq, cases_lt, eq-eqb, false≢true, ne_eqb}
-use Rattle.std.proofs.lemmas.List.{get_or_past}
-use Rattle.cci_codec.specs.dcd_base.specs.Words.{has_tag, same_tag}
-use Rattle.cci_codec.specs.dcd_base.specs.declared.capacity.Tag.{Tag}
-use Rattle.cci_codec.specs.dcd_base.specs.declared.ids.HostId.{HostId}
-use Rattle.cci_codec.specs.dcd_base.specs.declared.steps.LogId.{LogId}
-use Rattle.event_log.specs.LogStates.{LogState}
-use Rattle.event_log.specs.Logs.{empty_log, places_in, state_of, IsLogOf}
-use Rattle.device_rules.specs.GranuleCells.{IsCell}
+use Rattle.std.proofs.{Math.Nat.mod-add-mod, lemmas.Bool.cases_eq, lemmas.Bool.cases_lt, lemmas.Bool.eq-eqb, lemmas.Bool.false≢true, lemmas.Bool.ne_eqb, lemmas.List.get_or_past}
+use Rattle.std.specs.{Cmp.Lexicographic.same_text, List.AllByRecursion, List.list_any, Prelude.fold, Prelude.map, Prelude.Some, Prelude.if◌then◌else◌}
+use Rattle.cci_codec.specs.dcd_base.specs.{Words.has_tag, Words.same_tag, declared.capacity.Tag.Tag, declared.ids.HostId.HostId, declared.steps.LogId.LogId, Hosts.has_host}
+use Rattle.event_log.specs.{LogStates.LogState, Logs.empty_log, Logs.places_in, Logs.state_of, Logs.IsLogOf}
+use Rattle.device_rules.{proofs.LegalLogs.legal_logs, proofs.LegalSound.legal_is_sound, proofs.Rooms.room_for, proofs.ViewSteps.view_of-push, specs.Adding.present, specs.GranuleCells.IsCell}
 use Rattle.device_rules.specs.GranuleTable.{AreKnown, StaysRight}
-use Rattle.granule_map.specs.Tables.{cell_at}
-use Rattle.device_state.specs.StateAfter.{IsStateAfter, IsPart, no_part, part_of}
+use Rattle.device_rules.specs.{Hosts.accepted_after, Hosts.block_after, Hosts.block_of, Hosts.held_after, Hosts.moves, Hosts.offers_after, Hosts.offers_of, Legal.Legal, Legal.Meets}
+use Rattle.device_rules.specs.{Logs.log_after, Logs.log_of, TagTable.IsEntry, TagTable.IsTable, Tags.last_offer, Tags.open_tags, Tags.tag_runs}
 use Rattle.device_rules.specs.Views.{lists_in, View, view_after, view_of}
-use Rattle.extent_list.specs.HostLists.{Lists, next_generation}
-use Rattle.journal_core.proofs.EachSteps.{Each-push}
-use Rattle.journal_core.proofs.JournalSteps.{effects-push, over-push}
-use Rattle.journal_core.specs.Entries.{effects}
-use Rattle.journal_core.specs.Holders.{holding_after, holds}
-use Rattle.journal_core.specs.declared.entries.Entry.{Entry}
-use Rattle.journal_core.specs.declared.outcome.Effect.{Effect}
-use Rattle.journal_core.specs.declared.outcome.HeldKind.{HeldKind}
+use Rattle.granule_map.specs.Tables.{cell_at}
+use Rattle.device_state.proofs.{DeviceEffects.each_of_device, HolderBits.holding_over, HolderBits.length-over, HolderBits.none_over, OffersEntered.table_follows, RecordSteps.log_all}
+use Rattle.device_state.{proofs.TablesEntered.Agree, specs.Entered.IsEntered, specs.Entered.log_by, specs.Entered.oldest_in, specs.Entered.present_by, specs.Entered.runs_found, specs.Entered.runs_in}
+use Rattle.device_state.specs.{EnteredLists.counted, EnteredLists.lists_by, EnteredLists.lists_of, StateAfter.IsStateAfter, StateAfter.IsPart, StateAfter.no_part, StateAfter.part_of}
+use Rattle.device_state.specs.{Updates.IsOfDevice, Updates.lists_after, declared.parts.HostPart.HostPart, declared.state.State.State}
+use Rattle.extent_list.specs.{HostLists.Lists, HostLists.next_generation, media_map.specs.region_config.proofs.PresentBlocks.with_block-with_blocks}
+use Rattle.extent_list.specs.media_map.specs.region_config.specs.{Configurations.Configuration, Granules.granule_total, Granules.region_spec, Granules.with_blocks, Soundness.IsSound}
+use Rattle.journal_core.{proofs.EachSteps.Each-push, proofs.JournalSteps.effects-push, proofs.JournalSteps.over-push, specs.Entries.effects, specs.Holders.holding_after, specs.Holders.holds}
+use Rattle.journal_core.specs.declared.{entries.Entry.Entry, outcome.Effect.Effect, outcome.HeldKind.HeldKind}
 use Rattle.offer_core.specs.Offerings.{oldest_of}
-use Rattle.extent_list.specs.media_map.specs.region_config.proofs.PresentBlocks.{with_block-with_blocks}
-use Rattle.extent_list.specs.media_map.specs.region_config.specs.Configurations.{Configuration}
-use Rattle.extent_list.specs.media_map.specs.region_config.specs.Granules.{granule_total, region_spec, with_blocks}
-use Rattle.extent_list.specs.media_map.specs.region_config.specs.Soundness.{IsSound}
-use Rattle.device_rules.specs.TagTable.{IsEntry, IsTable}
-use Rattle.cci_codec.specs.dcd_base.specs.Hosts.{has_host}
-use Rattle.tag_refs.specs.Tables.{entry_with}
-use Rattle.tag_refs.specs.declared.entries.TagEntry.{TagEntry}
-use Rattle.device_rules.proofs.LegalSound.{legal_is_sound}
-use Rattle.device_rules.proofs.ViewSteps.{view_of-push}
-use Rattle.device_rules.specs.Adding.{present}
-use Rattle.device_rules.specs.Hosts.{accepted_after, block_after, block_of, held_after, moves, offers_after, offers_of}
-use Rattle.device_rules.specs.Legal.{Legal, Meets}
-use Rattle.device_rules.specs.Logs.{log_after, log_of}
-use Rattle.device_rules.specs.Tags.{last_offer, open_tags, tag_runs}
-use Rattle.device_rules.proofs.LegalLogs.{legal_logs}
-use Rattle.device_state.proofs.DeviceEffects.{each_of_device}
-use Rattle.device_state.proofs.HolderBits.{holding_over, length-over, none_over}
-use Rattle.device_state.proofs.RecordSteps.{log_all}
-use Rattle.device_rules.proofs.Rooms.{room_for}
-use Rattle.device_state.proofs.OffersEntered.{table_follows}
-use Rattle.device_state.proofs.TablesEntered.{Agree}
-use Rattle.device_state.specs.Entered.{IsEntered, log_by, oldest_in, present_by, runs_found, runs_in}
-use Rattle.device_state.specs.EnteredLists.{counted, lists_by, lists_of}
-use Rattle.device_state.specs.Updates.{IsOfDevice, lists_after}
-use Rattle.device_state.specs.declared.parts.HostPart.{HostPart}
-use Rattle.device_state.specs.declared.state.State.{State}
+use Rattle.tag_refs.specs.{Tables.entry_with, declared.entries.TagEntry.TagEntry}
 
 -- ---- the present configuration
 

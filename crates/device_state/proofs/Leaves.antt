@@ -1,32 +1,16 @@
 -- Runs that leave a host one after another are entered at once.
 use Rattle.std.proofs.Common.{◌≡◌, ◌≢◌, ◌⊎◌, ℕ, ◌+◌, ◌<◌, ◌==◌, ◌&&◌, true, List, [], ◌∷◌, ◌++◌, Some, All, drop, get_or, length, slice_get, take, inl, inr, refl, sym, ap, subst, ◌∙◌}
-use Rattle.std.specs.Prelude.{flat_map, fold, nat_lt}
-use Rattle.std.specs.List.{list_all}
-use Rattle.std.proofs.lemmas.Bool.{and_parts, cases_Bool}
-use Rattle.std.proofs.lemmas.List.{flat_map_more, take_more}
-use Rattle.std.proofs.lemmas.List.Elements.{All-head, All-tail}
-use Rattle.std.proofs.lemmas.List.Folds.{list_all-append}
-use Rattle.std.proofs.lemmas.List.Sums.{fold-append}
-use Rattle.cci_codec.specs.dcd_base.specs.Words.{same_tag}
-use Rattle.cci_codec.specs.dcd_base.specs.declared.capacity.Extent.{Extent}
-use Rattle.cci_codec.specs.dcd_base.specs.declared.capacity.Tag.{Tag}
-use Rattle.cci_codec.specs.dcd_base.specs.declared.ids.HostId.{HostId}
+use Rattle.std.proofs.lemmas.{Bool.and_parts, Bool.cases_Bool, List.flat_map_more, List.take_more, List.Elements.All-head, List.Elements.All-tail, List.Folds.list_all-append, List.Sums.fold-append}
+use Rattle.std.specs.{List.list_all, Prelude.flat_map, Prelude.fold, Prelude.nat_lt}
+use Rattle.cci_codec.specs.dcd_base.specs.{Words.same_tag, declared.capacity.Extent.Extent, declared.capacity.Tag.Tag, declared.ids.HostId.HostId}
 use Rattle.device_rules.proofs.TagSearches.{one_tag}
-use Rattle.extent_list.specs.ExtentLists.{cut, cut_all, has_range, piece}
-use Rattle.extent_list.specs.HostLists.{Lists}
-use Rattle.extent_list.specs.media_map.specs.region_config.specs.Configurations.{Configuration}
+use Rattle.extent_list.specs.{ExtentLists.cut, ExtentLists.cut_all, ExtentLists.has_range, ExtentLists.piece, HostLists.Lists, media_map.specs.region_config.specs.Configurations.Configuration}
 use Rattle.journal_core.specs.declared.outcome.Effect.{Effect}
 use Rattle.tag_refs.specs.declared.entries.TagEntry.{TagEntry}
-use Rattle.device_state.specs.Entered.{with_lists}
+use Rattle.device_state.proofs.{Listed.fits_at, Listed.listed_as, Listed.of_leave, Listed.own_leave, Listed.own_part, Listed.twice, OwnEffects.own_fits_at, ToldTwice.none_told, ToldTwice.told_again}
+use Rattle.device_state.specs.{Entered.with_lists, Leaves.HasOnly, Leaves.HasRun, Leaves.IsLeaving, Leaves.left_by, Leaves.left_over, Leaves.lists_left, Leaves.owner_tag, Leaves.told_left}
+use Rattle.device_state.specs.{Stages.AreListed, StateAfter.part_of, declared.parts.HostPart.HostPart, declared.state.State.State}
 use Rattle.device_state.specs.EnteredLists.{Fits, HasOwnPlaces, HasPlaces, OwnFits, all_lists_by, all_lists_over, lists_by, lists_of, room_by, table_by, tag_left, tags_over, told}
-use Rattle.device_state.specs.Leaves.{HasOnly, HasRun, IsLeaving, left_by, left_over, lists_left, owner_tag, told_left}
-use Rattle.device_state.specs.Stages.{AreListed}
-use Rattle.device_state.specs.StateAfter.{part_of}
-use Rattle.device_state.specs.declared.parts.HostPart.{HostPart}
-use Rattle.device_state.specs.declared.state.State.{State}
-use Rattle.device_state.proofs.Listed.{fits_at, listed_as, of_leave, own_leave, own_part, twice}
-use Rattle.device_state.proofs.OwnEffects.{own_fits_at}
-use Rattle.device_state.proofs.ToldTwice.{none_told, told_again}
 
 -- ---- ranges one after another
 

@@ -1,27 +1,17 @@
 -- What one effect makes of the lists of its host and of no other, and what more of them make of lists and tags.
 use Rattle.std.proofs.Common.{◌≡◌, ◌≢◌, ℕ, zero, suc, ◌+◌, ◌<◌, ◌≤◌, Bool, true, false, ◌&&◌, List, [], ◌∷◌, ◌++◌, drop, get_or, length, set, take, ltb, inl, inr, refl, sym, ap, subst, ◌∙◌, arith}
-use Rattle.std.specs.Prelude.{fold, if◌then◌else◌, ◌==◌}
-use Rattle.std.specs.List.{list_any}
 use Rattle.std.proofs.lemmas.Bool.{cases_eq, cases_lt, eq-eqb, le-ltb, lt-ltb, ne_eqb}
+use Rattle.std.proofs.lemmas.List.{get_or-set_other, get_or-set_same, get_or_past, length-set, set-set, Sums.fold-append}
+use Rattle.std.specs.{List.list_any, Prelude.fold, Prelude.if◌then◌else◌, Prelude.◌==◌}
 use Rattle.device_rules.specs.Hosts.{moves}
-use Rattle.std.proofs.lemmas.List.{get_or-set_other, get_or-set_same, get_or_past, length-set, set-set}
-use Rattle.std.proofs.lemmas.List.Sums.{fold-append}
-use Rattle.cci_codec.specs.dcd_base.specs.declared.capacity.Extent.{Extent}
-use Rattle.cci_codec.specs.dcd_base.specs.declared.ids.HostId.{HostId}
-use Rattle.cci_codec.specs.dcd_base.specs.declared.media.Run.{Run}
-use Rattle.extent_list.specs.ExtentLists.{cut}
-use Rattle.extent_list.specs.HostLists.{Lists, next_generation}
-use Rattle.journal_core.specs.declared.outcome.Effect.{Effect}
-use Rattle.journal_core.specs.declared.outcome.HeldKind.{HeldKind}
-use Rattle.extent_list.specs.media_map.specs.Places.{bytes_of_run, start_of}
+use Rattle.cci_codec.specs.dcd_base.specs.declared.{capacity.Extent.Extent, ids.HostId.HostId, media.Run.Run}
+use Rattle.extent_list.specs.{ExtentLists.cut, HostLists.Lists, HostLists.next_generation, media_map.specs.Places.bytes_of_run, media_map.specs.Places.start_of}
 use Rattle.extent_list.specs.media_map.specs.region_config.specs.Configurations.{Configuration}
+use Rattle.journal_core.specs.declared.outcome.{Effect.Effect, HeldKind.HeldKind}
 use Rattle.tag_refs.specs.declared.entries.TagEntry.{TagEntry}
-use Rattle.device_state.specs.Entered.{with_lists}
+use Rattle.device_state.specs.{Entered.with_lists, Stages.AreCounted, Stages.AreListed, Stages.IsListedAfter, Stages.IsListedOver, Stages.PartsOver, StateAfter.no_part, StateAfter.part_of}
+use Rattle.device_state.specs.declared.{parts.HostPart.HostPart, state.State.State}
 use Rattle.device_state.specs.EnteredLists.{Fits, HasPlaces, all_lists_by, all_lists_over, counted, held_of, lists_by, lists_of, room_by, table_by, tags_over, with_held}
-use Rattle.device_state.specs.Stages.{AreCounted, AreListed, IsListedAfter, IsListedOver, PartsOver}
-use Rattle.device_state.specs.StateAfter.{no_part, part_of}
-use Rattle.device_state.specs.declared.parts.HostPart.{HostPart}
-use Rattle.device_state.specs.declared.state.State.{State}
 
 -- ---- the lists of the effect's own host
 

@@ -1,19 +1,13 @@
 -- Effects are of the device also by its present block sizes.
 use Rattle.std.proofs.Common.{◌≡◌, ℕ, ◌<◌, true, length, List, get_or, inl, inr, refl, sym, ap, ◌∙◌, subst, arith}
-use Rattle.std.specs.Prelude.{All}
-use Rattle.std.specs.List.{enumerate_from}
-use Rattle.std.proofs.lemmas.Bool.{cases_eq}
-use Rattle.std.proofs.lemmas.List.{get_or-set_other, get_or-set_same, length-map, length-set}
-use Rattle.std.proofs.lemmas.List.FromFn.{length-enumerate_from}
+use Rattle.std.proofs.lemmas.{Bool.cases_eq, List.get_or-set_other, List.get_or-set_same, List.length-map, List.length-set, List.FromFn.length-enumerate_from}
+use Rattle.std.specs.{List.enumerate_from, Prelude.All}
 use Rattle.cci_codec.specs.dcd_base.specs.declared.steps.LogId.{LogId}
 use Rattle.journal_core.specs.declared.outcome.Effect.{Effect}
-use Rattle.extent_list.specs.media_map.specs.region_config.specs.Blocks.{with_block}
-use Rattle.extent_list.specs.media_map.specs.region_config.specs.Configurations.{Configuration}
+use Rattle.extent_list.specs.media_map.specs.region_config.{proofs.PresentBlocks.region_spec-with_blocks, specs.Blocks.with_block, specs.Configurations.Configuration}
 use Rattle.extent_list.specs.media_map.specs.region_config.specs.Granules.{is_supported, no_region, region_spec, sizes_in, with_blocks}
 use Rattle.extent_list.specs.media_map.specs.region_config.specs.declared.region_spec.RegionSpec.{RegionSpec}
-use Rattle.extent_list.specs.media_map.specs.region_config.proofs.PresentBlocks.{region_spec-with_blocks}
-use Rattle.device_state.specs.Entered.{present_by}
-use Rattle.device_state.specs.Updates.{IsOfDevice}
+use Rattle.device_state.specs.{Entered.present_by, Updates.IsOfDevice}
 
 -- a region that supports the size
 abbrev pub Supports : Configuration → ℕ → ℕ → Type 0

@@ -1,49 +1,21 @@
 -- The table of open tags is right after the effects of every legal step.
 use Rattle.std.proofs.Common.{◌≡◌, ℕ, Bool, true, false, List, [], ◌∷◌, ◌++◌, Some, None, flat_map, append_assoc, inl, inr, refl, sym, subst, ◌∙◌, arith}
-use Rattle.std.specs.Prelude.{find}
-use Rattle.std.specs.List.{AllByRecursion, list_all}
-use Rattle.std.proofs.lemmas.Bool.{false≢true}
-use Rattle.cci_codec.specs.dcd_base.specs.Words.{has_tag}
-use Rattle.cci_codec.specs.dcd_base.specs.declared.capacity.Extent.{Extent}
-use Rattle.cci_codec.specs.dcd_base.specs.declared.capacity.Tag.{Tag}
-use Rattle.cci_codec.specs.dcd_base.specs.declared.ids.HostId.{HostId}
-use Rattle.cci_codec.specs.dcd_base.specs.declared.steps.LogId.{LogId}
+use Rattle.std.{specs.Prelude.find, specs.List.AllByRecursion, specs.List.list_all, proofs.lemmas.Bool.false≢true}
+use Rattle.cci_codec.specs.dcd_base.specs.{Words.has_tag, declared.capacity.Extent.Extent, declared.capacity.Tag.Tag, declared.ids.HostId.HostId, declared.steps.LogId.LogId}
 use Rattle.fm_payloads.specs.declared.requests.FmRequest.{FmRequest}
-use Rattle.extent_list.specs.HostLists.{Lists}
+use Rattle.extent_list.specs.{HostLists.Lists, media_map.proofs.PlaceLemmas.found_at, media_map.proofs.PlaceLemmas.has, media_map.specs.Places.has_address}
+use Rattle.extent_list.specs.media_map.specs.region_config.specs.{Configurations.Configuration, Granules.region_spec, Granules.regions_of, Soundness.IsSound}
 use Rattle.host_payloads.specs.declared.requests.HostRequest.{HostRequest}
-use Rattle.journal_core.specs.Entries.{effects}
-use Rattle.journal_core.specs.declared.entries.Entry.{Entry}
-use Rattle.journal_core.specs.declared.outcome.Effect.{Effect}
-use Rattle.extent_list.specs.media_map.proofs.PlaceLemmas.{found_at, has}
-use Rattle.extent_list.specs.media_map.specs.Places.{has_address}
-use Rattle.extent_list.specs.media_map.specs.region_config.specs.Configurations.{Configuration}
-use Rattle.extent_list.specs.media_map.specs.region_config.specs.Granules.{region_spec, regions_of}
-use Rattle.extent_list.specs.media_map.specs.region_config.specs.Soundness.{IsSound}
-use Rattle.tag_refs.specs.Tables.{has_entry}
-use Rattle.tag_refs.specs.declared.entries.TagEntry.{TagEntry}
-use Rattle.device_rules.specs.TagTable.{IsTable}
-use Rattle.device_rules.specs.Adding.{offered}
-use Rattle.device_rules.specs.Answers.{host_outcome, manager_outcome, manager_rule, scrubbed, zeroes}
-use Rattle.device_rules.specs.Legal.{Legal, Meets}
-use Rattle.device_rules.specs.Logs.{log_of}
-use Rattle.device_rules.specs.Outcomes.{Outcome, effects_of, entered_all}
-use Rattle.device_rules.specs.ReleaseOutcomes.{is_cleaning, is_forced, removed}
-use Rattle.device_rules.specs.ResponseOutcomes.{unhold}
-use Rattle.device_rules.specs.Tags.{is_referenced, open_tags}
-use Rattle.device_rules.specs.Views.{View, view_of}
+use Rattle.journal_core.specs.{Entries.effects, declared.entries.Entry.Entry, declared.outcome.Effect.Effect}
+use Rattle.tag_refs.specs.{Tables.has_entry, declared.entries.TagEntry.TagEntry}
+use Rattle.device_rules.proofs.{AddSteps.IsPicked, AddSteps.picked, Adding.IsAdded, Adding.added, Adding.row_of, LegalSound.legal_is_sound, LegalSteps.Cases, LegalSteps.step_case}
+use Rattle.device_rules.proofs.{OfferSteps.opened_table, OfferSteps.private_table, OfferSteps.shared_now, OfferSteps.shared_tags, OneOffer.IsShared, TagEntries.table_live}
+use Rattle.device_rules.specs.{Adding.offered, Answers.host_outcome, Answers.manager_outcome, Answers.manager_rule, Answers.scrubbed, Answers.zeroes, Legal.Legal, Legal.Meets, Logs.log_of}
+use Rattle.device_rules.specs.{Outcomes.Outcome, Outcomes.effects_of, Outcomes.entered_all, Pictures.picture_of, ReleaseOutcomes.is_cleaning, ReleaseOutcomes.is_forced, ReleaseOutcomes.removed}
+use Rattle.device_rules.specs.{ResponseOutcomes.unhold, Standing.Sound, TagTable.IsTable, Tags.is_referenced, Tags.open_tags, Views.View, Views.view_of}
 use Rattle.device_rules.proofs.EffectKinds.{PassClearing, PassHeld, PassLists, PassRecords, any_log, clear_passes, host_passes, outcome_passes, reference_passes, removals_pass, tells_any, told_passes, unhold_passes, zeroes_pass}
-use Rattle.device_rules.proofs.LegalSteps.{Cases, step_case}
-use Rattle.device_rules.proofs.Adding.{IsAdded, added, row_of}
-use Rattle.device_rules.proofs.LegalSound.{legal_is_sound}
-use Rattle.device_rules.proofs.OneOffer.{IsShared}
-use Rattle.device_rules.specs.Pictures.{picture_of}
-use Rattle.device_rules.specs.Standing.{Sound}
-use Rattle.device_rules.proofs.AddSteps.{IsPicked, picked}
-use Rattle.device_rules.proofs.OfferSteps.{opened_table, private_table, shared_now, shared_tags}
-use Rattle.device_rules.proofs.TagEntries.{table_live}
 use Rattle.device_state.proofs.TablesEntered.{Agree, agree_by, all_right, is_no_offer, told_right}
-use Rattle.device_state.specs.EnteredLists.{all_lists_by, lists_by, table_by, tag_offered, tags_over}
-use Rattle.device_state.specs.Updates.{IsOfDevice}
+use Rattle.device_state.specs.{EnteredLists.all_lists_by, EnteredLists.lists_by, EnteredLists.table_by, EnteredLists.tag_offered, EnteredLists.tags_over, Updates.IsOfDevice}
 
 -- ---- an offer
 

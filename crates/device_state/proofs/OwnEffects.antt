@@ -1,15 +1,10 @@
 -- The lists of one host: what each effect finds, and what those of others leave.
 use Rattle.std.proofs.Common.{◌≡◌, ◌≢◌, ℕ, zero, suc, ◌+◌, ◌<◌, ◌≤◌, List, [], ◌∷◌, ◌++◌, drop, get_or, length, take, subst, sym, ◌∙◌, arith}
 use Rattle.std.specs.Prelude.{fold}
-use Rattle.cci_codec.specs.dcd_base.specs.declared.capacity.Extent.{Extent}
-use Rattle.cci_codec.specs.dcd_base.specs.declared.media.Run.{Run}
-use Rattle.extent_list.specs.ExtentLists.{count_in, cut}
-use Rattle.extent_list.specs.media_map.specs.Places.{bytes_of_run, start_of}
+use Rattle.cci_codec.specs.dcd_base.specs.declared.{capacity.Extent.Extent, media.Run.Run, ids.HostId.HostId}
+use Rattle.extent_list.specs.{ExtentLists.count_in, ExtentLists.cut, HostLists.Lists, media_map.specs.Places.bytes_of_run, media_map.specs.Places.start_of}
 use Rattle.extent_list.specs.media_map.specs.region_config.specs.Configurations.{Configuration}
-use Rattle.cci_codec.specs.dcd_base.specs.declared.ids.HostId.{HostId}
-use Rattle.extent_list.specs.HostLists.{Lists}
-use Rattle.journal_core.specs.declared.outcome.Effect.{Effect}
-use Rattle.journal_core.specs.declared.outcome.HeldKind.{HeldKind}
+use Rattle.journal_core.specs.declared.outcome.{Effect.Effect, HeldKind.HeldKind}
 use Rattle.device_state.specs.EnteredLists.{Fits, HasOwnPlaces, HasPlaces, OwnFits, all_lists_by, held_of, lists_by, room_by, with_held}
 use Rattle.device_state.proofs.Listed.{IsOf, own_answer, own_hold, own_leave, own_offer, own_unhold}
 

@@ -1,17 +1,11 @@
 -- The present configuration is the one of the device with its present block sizes, as entering a step asks.
 use Rattle.std.proofs.Common.{◌≡◌, ℕ, ◌<◌, List, length, sym, ap, ◌∙◌, arith}
-use Rattle.std.specs.List.{enumerate_from}
-use Rattle.std.proofs.lemmas.List.{ext_get_or, length-map}
-use Rattle.std.proofs.lemmas.List.FromFn.{length-enumerate_from}
-use Rattle.journal_core.specs.Entries.{effects}
-use Rattle.journal_core.specs.declared.entries.Entry.{Entry}
-use Rattle.extent_list.specs.media_map.specs.region_config.proofs.PresentBlocks.{region_spec-with_blocks}
-use Rattle.extent_list.specs.media_map.specs.region_config.specs.Configurations.{Configuration}
-use Rattle.extent_list.specs.media_map.specs.region_config.specs.Granules.{no_region, region_spec, with_blocks}
-use Rattle.extent_list.specs.media_map.specs.region_config.specs.declared.region_spec.RegionSpec.{RegionSpec}
+use Rattle.std.{specs.List.enumerate_from, proofs.lemmas.List.ext_get_or, proofs.lemmas.List.length-map, proofs.lemmas.List.FromFn.length-enumerate_from}
+use Rattle.journal_core.specs.{Entries.effects, declared.entries.Entry.Entry}
+use Rattle.extent_list.specs.media_map.specs.region_config.{proofs.PresentBlocks.region_spec-with_blocks, specs.Configurations.Configuration}
+use Rattle.extent_list.specs.media_map.specs.region_config.specs.{Granules.no_region, Granules.region_spec, Granules.with_blocks, declared.region_spec.RegionSpec.RegionSpec}
 use Rattle.device_rules.specs.Hosts.{block_of}
-use Rattle.device_state.specs.StateAfter.{IsStateAfter}
-use Rattle.device_state.specs.declared.state.State.{State}
+use Rattle.device_state.specs.{StateAfter.IsStateAfter, declared.state.State.State}
 
 long : (c : Configuration) (b : ℕ → ℕ) → length (with_blocks c b).regions ≡ length c.regions
 long c b = length-map (enumerate_from 0 c.regions) (λ (spec : ℕ × RegionSpec). record spec.1 { block = b spec.0 }) ∙ length-enumerate_from 0 c.regions

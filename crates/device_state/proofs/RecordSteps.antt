@@ -1,17 +1,13 @@
 -- A log that each effect of a step changes is the one that the effects so far tell.
 use Rattle.std.proofs.Common.{◌≡◌, ℕ, Bool, true, false, List, [], ◌∷◌, ◌++◌, length, refl, sym, ap, ◌∙◌}
-use Rattle.std.specs.Prelude.{fold, if◌then◌else◌}
-use Rattle.std.proofs.lemmas.Bool.{lt-ltb}
-use Rattle.std.proofs.lemmas.List.{drop-drop}
+use Rattle.std.{specs.Prelude.fold, specs.Prelude.if◌then◌else◌, proofs.lemmas.Bool.lt-ltb, proofs.lemmas.List.drop-drop}
 use Rattle.cci_codec.specs.dcd_base.specs.declared.steps.LogId.{LogId}
-use Rattle.event_log.proofs.Histories.{follows}
-use Rattle.event_log.specs.LogStates.{LogState, with_missed, with_record, without_oldest}
+use Rattle.event_log.{proofs.Histories.follows, specs.LogStates.LogState, specs.LogStates.with_missed, specs.LogStates.with_record, specs.LogStates.without_oldest}
 use Rattle.event_log.specs.Logs.{Log, cleared_of, missed_by, next_handle, places_in, records_in, reset, state_of}
 use Rattle.event_records.specs.declared.events.Event.{Event}
 use Rattle.journal_core.specs.declared.outcome.Effect.{Effect}
-use Rattle.device_rules.specs.Logs.{log_after, same_log}
+use Rattle.device_rules.specs.{Logs.log_after, Logs.same_log, Rooms.HasRoom, Rooms.HaveRoom, Rooms.IsNextRecord}
 use Rattle.device_state.specs.Entered.{log_by, put_in}
-use Rattle.device_rules.specs.Rooms.{HasRoom, HaveRoom, IsNextRecord}
 
 -- a record that has room
 put_room : (l : LogId) (log : Log) (event : Event) → IsNextRecord l log event →

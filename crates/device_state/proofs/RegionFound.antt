@@ -1,12 +1,9 @@
 -- What becomes of a granule by its region, looked for from the first region on.
 use Rattle.std.proofs.Common.{◌≡◌, ℕ, suc, ◌<◌, ◌≤◌, length, Some, None, refl, sym, ap, ◌∙◌, arith}
 use Rattle.std.proofs.lemmas.Bool.{le-ltb, lt-ltb}
-use Rattle.extent_list.specs.media_map.specs.region_config.specs.Configurations.{Configuration}
+use Rattle.extent_list.specs.media_map.specs.region_config.{proofs.Faultless.granules_rise, proofs.GranuleLemmas.region_is, specs.Configurations.Configuration}
 use Rattle.extent_list.specs.media_map.specs.region_config.specs.Granules.{first_granule, granule_total, region_spec}
-use Rattle.extent_list.specs.media_map.specs.region_config.proofs.Faultless.{granules_rise}
-use Rattle.extent_list.specs.media_map.specs.region_config.proofs.GranuleLemmas.{region_is}
-use Rattle.device_state.specs.Granules.{IsLastRegion, flags_found, flags_of}
-use Rattle.device_state.specs.declared.regions.LastRegion.{LastRegion}
+use Rattle.device_state.specs.{Granules.IsLastRegion, Granules.flags_found, Granules.flags_of, declared.regions.LastRegion.LastRegion}
 
 pub found_in : (c : Configuration) (g r : ℕ) → r < length c.regions → first_granule c r ≤ g → g < first_granule c (suc r) → Some (flags_of (region_spec c r)) ≡ flags_found c g
 found_in c g r known from to =

@@ -1,23 +1,16 @@
 -- What is kept after one more effect.
 use Rattle.std.proofs.Common.{◌≡◌, ℕ, ◌+◌, ◌<◌, List, length, get_or, take, refl, sym, ap, ◌∙◌, arith}
-use Rattle.std.specs.Prelude.{fold}
-use Rattle.std.proofs.lemmas.List.Sums.{fold_more}
-use Rattle.cci_codec.specs.dcd_base.specs.declared.ids.HostId.{HostId}
-use Rattle.cci_codec.specs.dcd_base.specs.declared.steps.LogId.{LogId}
+use Rattle.std.{specs.Prelude.fold, proofs.lemmas.List.Sums.fold_more}
+use Rattle.cci_codec.specs.dcd_base.specs.declared.{ids.HostId.HostId, steps.LogId.LogId}
 use Rattle.event_log.specs.LogStates.{LogState}
 use Rattle.granule_map.specs.Tables.{Cell, cell_at}
-use Rattle.extent_list.specs.HostLists.{Lists}
+use Rattle.extent_list.specs.{HostLists.Lists, media_map.specs.region_config.specs.Configurations.Configuration}
 use Rattle.journal_core.specs.declared.outcome.Effect.{Effect}
 use Rattle.offer_core.specs.Offerings.{oldest_of}
-use Rattle.extent_list.specs.media_map.specs.region_config.specs.Configurations.{Configuration}
 use Rattle.device_rules.specs.GranuleCells.{cell_after, cell_over, ended_run, unoffered_extent}
-use Rattle.device_state.specs.Entered.{log_by, oldest_in, runs_found, runs_in}
+use Rattle.device_state.specs.{Entered.log_by, Entered.oldest_in, Entered.runs_found, Entered.runs_in, Granules.CellsAfter, Granules.CellsOver, Stages.ArePartsAfter, Stages.PartsOver}
+use Rattle.device_state.specs.{StateAfter.part_of, Updates.IsOfDevice, declared.state.State.State}
 use Rattle.tag_refs.specs.Tables.{TagTable, entry_with}
-use Rattle.device_state.specs.Granules.{CellsAfter, CellsOver}
-use Rattle.device_state.specs.StateAfter.{part_of}
-use Rattle.device_state.specs.Stages.{ArePartsAfter, PartsOver}
-use Rattle.device_state.specs.Updates.{IsOfDevice}
-use Rattle.device_state.specs.declared.state.State.{State}
 
 -- ---- the hosts' parts and the manager's log
 

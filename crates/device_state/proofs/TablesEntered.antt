@@ -1,34 +1,18 @@
 -- The table of open tags is right after each effect that is no offer, whatever the journal.
 use Rattle.std.proofs.Common.{◌≡◌, ℕ, ◌<◌, Bool, true, false, ◌||◌, not, ◌+◌, ◌-◌, List, [], ◌∷◌, ◌++◌, None, drop, length, ltb, map, append_assoc, append-nil, inl, inr, refl, sym, ap, subst, ◌∙◌}
-use Rattle.std.specs.Prelude.{filter, find, if◌then◌else◌, option_to_list}
-use Rattle.std.specs.List.{AllByRecursion, list_all, list_any}
-use Rattle.std.proofs.lemmas.Bool.{and_parts, cases_Bool, eq-eqb, false≢true, or_parts}
-use Rattle.std.proofs.lemmas.List.Folds.{list_any-append}
-use Rattle.std.proofs.lemmas.List.Sums.{fold-append}
-use Rattle.cci_codec.specs.dcd_base.specs.Words.{has_tag, same_tag}
-use Rattle.cci_codec.specs.dcd_base.specs.declared.capacity.Extent.{Extent}
-use Rattle.cci_codec.specs.dcd_base.specs.declared.capacity.Tag.{Tag}
-use Rattle.cci_codec.specs.dcd_base.specs.declared.ids.HostId.{HostId}
-use Rattle.cci_codec.specs.dcd_base.specs.declared.media.Run.{Run}
-use Rattle.extent_list.specs.ExtentLists.{cut, has_extent_of, has_range, piece}
-use Rattle.extent_list.specs.HostLists.{Lists}
+use Rattle.std.proofs.lemmas.{Bool.and_parts, Bool.cases_Bool, Bool.eq-eqb, Bool.false≢true, Bool.or_parts, List.Folds.list_any-append, List.Sums.fold-append}
+use Rattle.std.specs.{List.AllByRecursion, List.list_all, List.list_any, Prelude.filter, Prelude.find, Prelude.if◌then◌else◌, Prelude.option_to_list}
+use Rattle.cci_codec.specs.dcd_base.specs.{Words.has_tag, Words.same_tag, declared.capacity.Extent.Extent, declared.capacity.Tag.Tag, declared.ids.HostId.HostId, declared.media.Run.Run}
+use Rattle.extent_list.specs.{ExtentLists.cut, ExtentLists.has_extent_of, ExtentLists.has_range, ExtentLists.piece, HostLists.Lists}
+use Rattle.extent_list.specs.media_map.specs.{Places.bytes_of_run, Places.start_of, region_config.specs.Configurations.Configuration}
 use Rattle.journal_core.specs.declared.outcome.Effect.{Effect}
-use Rattle.extent_list.specs.media_map.specs.Places.{bytes_of_run, start_of}
 use Rattle.offer_core.specs.Offerings.{oldest_of}
-use Rattle.extent_list.specs.media_map.specs.region_config.specs.Configurations.{Configuration}
-use Rattle.tag_refs.specs.Tables.{entries_changed, entries_without, is_entry_of, set_by, with_reference}
-use Rattle.tag_refs.specs.declared.entries.TagEntry.{TagEntry}
+use Rattle.tag_refs.specs.{Tables.entries_changed, Tables.entries_without, Tables.is_entry_of, Tables.set_by, Tables.with_reference, declared.entries.TagEntry.TagEntry}
+use Rattle.device_rules.proofs.{HostBits.host_bits-same, HostBits.set_by-twice, HostOfTagsSet.Told, HostOfTagsSet.tell, HostOfTagsSet.tell_tag, HostOfTagsSet.told_entry, Pictures.picture-append}
+use Rattle.device_rules.proofs.{QuietSteps.table_left, SettledTags.mapped, TagEntries.entry-moved, TagSteps.same_tag-back, TagSteps.same_tag-is}
+use Rattle.device_rules.specs.{Hosts.accepted_after, Hosts.accepted_of, Hosts.offers_after, Hosts.offers_of, Pictures.Picture, Pictures.picture_after, Pictures.picture_of}
 use Rattle.device_rules.specs.TagTable.{IsEntry, IsTable}
-use Rattle.device_rules.specs.Hosts.{accepted_after, accepted_of, offers_after, offers_of}
 use Rattle.device_rules.specs.Tags.{is_accepted_by, is_offered_to, is_referenced, last_offer, last_offer_after, open_tags, reference_after, tag_region, tag_runs, tags_after}
-use Rattle.device_rules.proofs.TagSteps.{same_tag-back, same_tag-is}
-use Rattle.device_rules.proofs.Pictures.{picture-append}
-use Rattle.device_rules.specs.Pictures.{Picture, picture_after, picture_of}
-use Rattle.device_rules.proofs.HostBits.{host_bits-same, set_by-twice}
-use Rattle.device_rules.proofs.HostOfTagsSet.{Told, tell, tell_tag, told_entry}
-use Rattle.device_rules.proofs.QuietSteps.{table_left}
-use Rattle.device_rules.proofs.SettledTags.{mapped}
-use Rattle.device_rules.proofs.TagEntries.{entry-moved}
 use Rattle.device_state.specs.EnteredLists.{all_lists_by, each_tag, lists_by, table_by, tag_left, tags_over, told}
 use Rattle.device_state.specs.Updates.{IsOfDevice}
 

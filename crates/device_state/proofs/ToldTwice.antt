@@ -1,21 +1,13 @@
 -- What is told of a tag twice is told once.
 use Rattle.std.proofs.Common.{◌≡◌, ℕ, suc, ◌+◌, ◌-◌, ◌^◌, ◌<◌, Bool, true, false, List, [], ◌∷◌, get_or, length, take, refl, sym, ap, ◌∙◌, arith}
+use Rattle.std.{proofs.lemmas.Bool.eqb-true, proofs.lemmas.List.Sums.fold_more, specs.List.list_any}
 use Rattle.std.specs.Prelude.{◌==◌, IsTrue, fold, if◌then◌else◌, map}
-use Rattle.std.specs.List.{list_any}
-use Rattle.std.proofs.lemmas.Bool.{eqb-true}
-use Rattle.std.proofs.lemmas.List.Sums.{fold_more}
-use Rattle.cci_codec.specs.dcd_base.specs.Hosts.{has_host, with_host, without_host}
-use Rattle.cci_codec.specs.dcd_base.specs.Words.{same_tag}
-use Rattle.cci_codec.specs.dcd_base.specs.declared.capacity.Extent.{Extent}
-use Rattle.cci_codec.specs.dcd_base.specs.declared.capacity.Tag.{Tag}
-use Rattle.cci_codec.specs.dcd_base.specs.declared.ids.HostId.{HostId}
+use Rattle.cci_codec.specs.dcd_base.specs.{Hosts.has_host, Hosts.with_host, Hosts.without_host, Words.same_tag, declared.capacity.Extent.Extent, declared.capacity.Tag.Tag, declared.ids.HostId.HostId}
 use Rattle.device_rules.proofs.TagSearches.{one_tag}
-use Rattle.extent_list.specs.HostLists.{Lists}
-use Rattle.extent_list.specs.ExtentLists.{has_extent_of}
-use Rattle.tag_refs.specs.Tables.{entries_changed, is_entry_of, set_by}
-use Rattle.tag_refs.specs.declared.entries.TagEntry.{TagEntry}
-use Rattle.device_state.specs.EnteredLists.{each_tag, told}
+use Rattle.extent_list.specs.{HostLists.Lists, ExtentLists.has_extent_of}
+use Rattle.tag_refs.specs.{Tables.entries_changed, Tables.is_entry_of, Tables.set_by, declared.entries.TagEntry.TagEntry}
 use Rattle.device_state.proofs.HolderBits.{with_same, with_without, without_same, without_with}
+use Rattle.device_state.specs.EnteredLists.{each_tag, told}
 
 with_twice : (n h : ℕ) → h < 16 → with_host (with_host n h) h ≡ with_host n h
 with_twice n h known = ap (λ b. if b then with_host n h else with_host n h + 2 ^ h) (with_same n h known)

@@ -1,12 +1,9 @@
 -- What one effect makes of a log or a host's part, seen from the effect.
 use Rattle.std.specs.Prelude.{◌≡◌, ◌<◌, length, Option, Some, None}
-use Rattle.cci_codec.specs.dcd_base.specs.declared.ids.HostId.{HostId}
-use Rattle.cci_codec.specs.dcd_base.specs.declared.steps.LogId.{LogId}
+use Rattle.cci_codec.specs.dcd_base.specs.declared.{ids.HostId.HostId, steps.LogId.LogId}
 use Rattle.event_log.specs.LogStates.{LogState, with_missed, without_oldest}
 use Rattle.journal_core.specs.declared.outcome.Effect.{Effect}
-use Rattle.device_state.specs.Entered.{log_by, put_in}
-use Rattle.device_state.specs.StateAfter.{part_of}
-use Rattle.device_state.specs.declared.state.State.{State}
+use Rattle.device_state.specs.{Entered.log_by, Entered.put_in, StateAfter.part_of, declared.state.State.State}
 
 -- the log that the effect changes
 abbrev pub log_told : Effect → Option LogId

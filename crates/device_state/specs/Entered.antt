@@ -1,28 +1,17 @@
 -- What entering a step makes of what is kept, part by part.
 use Rattle.std.specs.Prelude.{◌≡◌, ℕ, ◌<◌, nat_lt, List, [], fold, length, map, Option, Some, None, if◌then◌else◌, Bool, ◌&&◌, nat_le, slice_index_or, slice_set}
 use Rattle.std.specs.List.{enumerate_from}
-use Rattle.cci_codec.specs.dcd_base.specs.Words.{has_granule}
-use Rattle.cci_codec.specs.dcd_base.specs.declared.capacity.Extent.{Extent}
-use Rattle.cci_codec.specs.dcd_base.specs.declared.capacity.Tag.{Tag}
-use Rattle.cci_codec.specs.dcd_base.specs.declared.ids.HostId.{HostId}
-use Rattle.cci_codec.specs.dcd_base.specs.declared.media.Run.{Run}
-use Rattle.cci_codec.specs.dcd_base.specs.declared.steps.LogId.{LogId}
+use Rattle.cci_codec.specs.dcd_base.specs.{Hosts.with_host, Hosts.without_host, Words.has_granule, declared.capacity.Extent.Extent, declared.capacity.Tag.Tag, declared.ids.HostId.HostId}
+use Rattle.cci_codec.specs.dcd_base.specs.declared.{media.Run.Run, steps.LogId.LogId}
 use Rattle.event_log.specs.LogStates.{LogState, with_missed, with_record, without_oldest}
 use Rattle.event_records.specs.declared.events.Event.{Event}
-use Rattle.device_rules.specs.GranuleCells.{cell_over}
+use Rattle.device_rules.specs.{GranuleCells.cell_over, Logs.same_log}
 use Rattle.granule_map.specs.Tables.{cell_at}
-use Rattle.extent_list.specs.HostLists.{Lists}
+use Rattle.extent_list.specs.{HostLists.Lists, media_map.specs.region_config.specs.Blocks.with_block, media_map.specs.region_config.specs.Configurations.Configuration}
 use Rattle.journal_core.specs.declared.outcome.Effect.{Effect}
 use Rattle.offer_core.specs.Offerings.{oldest_of}
-use Rattle.extent_list.specs.media_map.specs.region_config.specs.Blocks.{with_block}
-use Rattle.extent_list.specs.media_map.specs.region_config.specs.Configurations.{Configuration}
-use Rattle.device_rules.specs.Logs.{same_log}
-use Rattle.cci_codec.specs.dcd_base.specs.Hosts.{with_host, without_host}
-use Rattle.tag_refs.specs.Tables.{entry_with}
-use Rattle.tag_refs.specs.declared.entries.TagEntry.{TagEntry}
-use Rattle.device_state.specs.EnteredLists.{counted, lists_by, lists_of, tags_over}
-use Rattle.device_state.specs.StateAfter.{part_of}
-use Rattle.device_state.specs.declared.parts.HostPart.{HostPart}
+use Rattle.tag_refs.specs.{Tables.entry_with, declared.entries.TagEntry.TagEntry}
+use Rattle.device_state.specs.{EnteredLists.counted, EnteredLists.lists_by, EnteredLists.lists_of, EnteredLists.tags_over, StateAfter.part_of, declared.parts.HostPart.HostPart}
 use Rattle.device_state.specs.declared.state.State.{State}
 
 -- each host's oldest offer, and the runs of the open tags

@@ -1,23 +1,15 @@
 -- What entering a step makes of the hosts' lists and of the table of the open tags.
 use Rattle.std.specs.Prelude.{◌≡◌, ℕ, ◌+◌, ◌-◌, ◌<◌, ◌≤◌, not, All, IsTrue, List, [], ◌∷◌, ◌++◌, Option, Some, None, find, fold, if◌then◌else◌, length, map, option_to_list}
 use Rattle.std.specs.List.{list_any}
-use Rattle.cci_codec.specs.dcd_base.specs.declared.capacity.Extent.{Extent}
-use Rattle.cci_codec.specs.dcd_base.specs.declared.capacity.Tag.{Tag}
-use Rattle.cci_codec.specs.dcd_base.specs.declared.ids.HostId.{HostId}
-use Rattle.cci_codec.specs.dcd_base.specs.declared.media.Run.{Run}
-use Rattle.extent_list.specs.ExtentLists.{count_in, has_extent_of, has_range}
-use Rattle.extent_list.specs.HostLists.{Lists, next_generation}
-use Rattle.journal_core.specs.declared.outcome.Effect.{Effect}
-use Rattle.journal_core.specs.declared.outcome.HeldKind.{HeldKind}
+use Rattle.cci_codec.specs.dcd_base.specs.declared.{capacity.Extent.Extent, capacity.Tag.Tag, ids.HostId.HostId, media.Run.Run}
+use Rattle.extent_list.specs.{ExtentLists.count_in, ExtentLists.has_extent_of, ExtentLists.has_range, HostLists.Lists, HostLists.next_generation}
 use Rattle.extent_list.specs.media_map.specs.Places.{IsRun, bytes_of_run, has_address, is_granular, run_of, start_of}
+use Rattle.extent_list.specs.media_map.specs.region_config.specs.{Configurations.Configuration, Granules.region_spec, Granules.regions_of}
+use Rattle.journal_core.specs.declared.outcome.{Effect.Effect, HeldKind.HeldKind}
 use Rattle.offer_core.specs.Offerings.{oldest_of}
-use Rattle.extent_list.specs.media_map.specs.region_config.specs.Configurations.{Configuration}
-use Rattle.extent_list.specs.media_map.specs.region_config.specs.Granules.{region_spec, regions_of}
 use Rattle.device_rules.specs.Hosts.{accepted_after, held_after, moves, offers_after}
-use Rattle.tag_refs.specs.Tables.{entries_changed, entries_without, has_entry, opened, set_by, with_reference}
-use Rattle.tag_refs.specs.declared.entries.TagEntry.{TagEntry}
-use Rattle.device_state.specs.StateAfter.{part_of}
-use Rattle.device_state.specs.declared.state.State.{State}
+use Rattle.tag_refs.specs.{Tables.entries_changed, Tables.entries_without, Tables.has_entry, Tables.opened, Tables.set_by, Tables.with_reference, declared.entries.TagEntry.TagEntry}
+use Rattle.device_state.specs.{StateAfter.part_of, declared.state.State.State}
 
 -- ---- lists
 

@@ -1,19 +1,12 @@
 -- What the device keeps of its granules, changed granule by granule.
 use Rattle.std.specs.Prelude.{◌≡◌, ℕ, ◌<◌, ◌≤◌, ◌&&◌, Bool, true, not, nat_lt, if◌then◌else◌, length, List, Option, Some, None}
-use Rattle.cci_codec.specs.dcd_base.specs.declared.capacity.Tag.{Tag}
-use Rattle.cci_codec.specs.dcd_base.specs.declared.media.Run.{Run}
-use Rattle.extent_list.specs.media_map.specs.region_config.specs.Configurations.{Configuration}
-use Rattle.extent_list.specs.media_map.specs.region_config.specs.Granules.{granule_total, region_of, region_spec}
+use Rattle.cci_codec.specs.dcd_base.specs.declared.{capacity.Tag.Tag, media.Run.Run, ids.HostId.HostId}
+use Rattle.extent_list.specs.media_map.specs.region_config.specs.{Configurations.Configuration, Granules.granule_total, Granules.region_of, Granules.region_spec}
 use Rattle.extent_list.specs.media_map.specs.region_config.specs.declared.region_spec.RegionSpec.{RegionSpec}
 use Rattle.device_rules.specs.GranuleCells.{is_shareable_run, cell_after, cell_over}
-use Rattle.granule_map.specs.Tables.{Cell, CellTable, cell_at, soiled, given}
-use Rattle.cci_codec.specs.dcd_base.specs.declared.ids.HostId.{HostId}
-use Rattle.granule_map.specs.declared.states.GranuleState.{GranuleState}
+use Rattle.granule_map.specs.{Tables.Cell, Tables.CellTable, Tables.cell_at, Tables.soiled, Tables.given, declared.states.GranuleState.GranuleState}
 use Rattle.journal_core.specs.declared.outcome.Effect.{Effect}
-use Rattle.device_state.specs.Entered.{oldest_in, runs_in}
-use Rattle.device_state.specs.declared.regions.LastRegion.{LastRegion}
-use Rattle.device_state.specs.declared.regions.RegionFlags.{RegionFlags}
-use Rattle.device_state.specs.declared.state.State.{State}
+use Rattle.device_state.specs.{Entered.oldest_in, Entered.runs_in, declared.regions.LastRegion.LastRegion, declared.regions.RegionFlags.RegionFlags, declared.state.State.State}
 
 -- Each granule of the table becomes what the change makes of it.
 pub record AreChanged (change : ℕ → Cell → Cell) (old new : CellTable) : Type 0 where

@@ -1,14 +1,7 @@
 -- Runs that leave a host one after another.
-use Rattle.std.specs.Prelude.{◌≡◌, true, List, [], ◌∷◌, find, flat_map, option_to_list}
-use Rattle.std.specs.List.{list_all}
-use Rattle.cci_codec.specs.dcd_base.specs.Words.{same_tag, zero_tag}
-use Rattle.cci_codec.specs.dcd_base.specs.declared.capacity.Extent.{Extent}
-use Rattle.cci_codec.specs.dcd_base.specs.declared.capacity.Tag.{Tag}
-use Rattle.cci_codec.specs.dcd_base.specs.declared.ids.HostId.{HostId}
-use Rattle.cci_codec.specs.dcd_base.specs.declared.media.Run.{Run}
-use Rattle.extent_list.specs.ExtentLists.{cut_all, has_range}
-use Rattle.extent_list.specs.HostLists.{Lists}
-use Rattle.extent_list.specs.media_map.specs.Places.{IsRun, extent_of}
+use Rattle.std.specs.{Prelude.◌≡◌, Prelude.true, Prelude.List, Prelude.[], Prelude.◌∷◌, Prelude.find, Prelude.flat_map, Prelude.option_to_list, List.list_all}
+use Rattle.cci_codec.specs.dcd_base.specs.{Words.same_tag, Words.zero_tag, declared.capacity.Extent.Extent, declared.capacity.Tag.Tag, declared.ids.HostId.HostId, declared.media.Run.Run}
+use Rattle.extent_list.specs.{ExtentLists.cut_all, ExtentLists.has_range, HostLists.Lists, media_map.specs.Places.IsRun, media_map.specs.Places.extent_of}
 use Rattle.extent_list.specs.media_map.specs.region_config.specs.Configurations.{Configuration}
 use Rattle.journal_core.specs.declared.outcome.Effect.{Effect}
 use Rattle.tag_refs.specs.declared.entries.TagEntry.{TagEntry}

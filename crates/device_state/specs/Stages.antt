@@ -1,16 +1,11 @@
 -- What the effects of a step make of the hosts' parts: first of the logs, and then of lists and tags.
-use Rattle.std.specs.Prelude.{◌≡◌, ◌<◌, Bool, List, false, fold, length, slice_index_or}
-use Rattle.std.specs.List.{list_any}
+use Rattle.std.specs.{Prelude.◌≡◌, Prelude.◌<◌, Prelude.Bool, Prelude.List, Prelude.false, Prelude.fold, Prelude.length, Prelude.slice_index_or, List.list_any}
 use Rattle.device_rules.specs.Hosts.{moves}
-use Rattle.cci_codec.specs.dcd_base.specs.declared.ids.HostId.{HostId}
-use Rattle.cci_codec.specs.dcd_base.specs.declared.steps.LogId.{LogId}
-use Rattle.extent_list.specs.HostLists.{Lists}
+use Rattle.cci_codec.specs.dcd_base.specs.declared.{ids.HostId.HostId, steps.LogId.LogId}
+use Rattle.extent_list.specs.{HostLists.Lists, media_map.specs.region_config.specs.Configurations.Configuration}
 use Rattle.journal_core.specs.declared.outcome.Effect.{Effect}
-use Rattle.extent_list.specs.media_map.specs.region_config.specs.Configurations.{Configuration}
-use Rattle.device_state.specs.Entered.{log_by}
-use Rattle.device_state.specs.EnteredLists.{all_lists_by, all_lists_over, counted, lists_of, table_by, tags_over}
-use Rattle.device_state.specs.StateAfter.{part_of}
-use Rattle.device_state.specs.declared.state.State.{State}
+use Rattle.device_state.specs.{Entered.log_by, EnteredLists.all_lists_by, EnteredLists.all_lists_over, EnteredLists.counted, EnteredLists.lists_of, EnteredLists.table_by, EnteredLists.tags_over}
+use Rattle.device_state.specs.{StateAfter.part_of, declared.state.State.State}
 
 -- The logs are changed by an effect, or by more of them, and no lists.
 pub record ArePartsAfter (e : Effect) (old now : State) : Type 0 where

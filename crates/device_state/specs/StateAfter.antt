@@ -1,26 +1,13 @@
 -- That what the device keeps is what the journal says.
 use Rattle.std.specs.Prelude.{◌≡◌, ℕ, ◌<◌, ◌≤◌, false, List, length, slice_index, slice_index_or}
-use Rattle.cci_codec.specs.dcd_base.specs.declared.ids.HostId.{HostId}
-use Rattle.cci_codec.specs.dcd_base.specs.declared.steps.LogId.{LogId}
-use Rattle.extent_list.specs.media_map.specs.region_config.specs.Configurations.{Configuration}
-use Rattle.extent_list.specs.media_map.specs.region_config.specs.Granules.{granule_total}
+use Rattle.cci_codec.specs.dcd_base.specs.{declared.ids.HostId.HostId, declared.steps.LogId.LogId, Hosts.has_host}
+use Rattle.extent_list.specs.{HostLists.no_lists, media_map.specs.region_config.specs.Configurations.Configuration, media_map.specs.region_config.specs.Granules.granule_total}
 use Rattle.extent_list.specs.media_map.specs.region_config.specs.Soundness.{IsSound}
-use Rattle.event_log.specs.LogStates.{new_log}
-use Rattle.journal_core.specs.Entries.{effects}
-use Rattle.journal_core.specs.Holders.{holds}
-use Rattle.journal_core.specs.declared.entries.Entry.{Entry}
-use Rattle.cci_codec.specs.dcd_base.specs.Hosts.{has_host}
+use Rattle.event_log.specs.{LogStates.new_log, Logs.IsLogOf}
+use Rattle.journal_core.specs.{Entries.effects, Holders.holds, declared.entries.Entry.Entry}
 use Rattle.granule_map.specs.Tables.{cell_at}
-use Rattle.device_rules.specs.GranuleCells.{IsCell}
-use Rattle.device_rules.specs.TagTable.{IsTable}
-use Rattle.extent_list.specs.HostLists.{no_lists}
-use Rattle.device_rules.specs.Adding.{present}
-use Rattle.device_rules.specs.Legal.{Legal}
-use Rattle.device_rules.specs.Logs.{log_of}
-use Rattle.device_rules.specs.Views.{View, view_of, lists_in}
-use Rattle.device_state.specs.declared.parts.HostPart.{HostPart}
-use Rattle.device_state.specs.declared.state.State.{State}
-use Rattle.event_log.specs.Logs.{IsLogOf}
+use Rattle.device_rules.specs.{GranuleCells.IsCell, TagTable.IsTable, Adding.present, Legal.Legal, Logs.log_of, Views.View, Views.view_of, Views.lists_in}
+use Rattle.device_state.specs.declared.{parts.HostPart.HostPart, state.State.State}
 
 -- the part of a host that has nothing, and the part of a host by its number
 abbrev pub no_part : HostPart

@@ -1,19 +1,12 @@
 -- What a step asks of what is kept, and what entering it keeps.
 use Rattle.std.specs.Prelude.{◌≡◌, ℕ, ◌<◌, true, List, ◌++◌, length, ◌∷◌, []}
-use Rattle.cci_codec.specs.dcd_base.specs.declared.ids.HostId.{HostId}
-use Rattle.cci_codec.specs.dcd_base.specs.declared.steps.LogId.{LogId}
-use Rattle.extent_list.specs.media_map.specs.region_config.specs.Configurations.{Configuration}
+use Rattle.cci_codec.specs.dcd_base.specs.declared.{ids.HostId.HostId, steps.LogId.LogId}
+use Rattle.extent_list.specs.{HostLists.Lists, media_map.specs.region_config.specs.Configurations.Configuration}
 use Rattle.extent_list.specs.media_map.specs.region_config.specs.Granules.{is_supported, region_spec}
-use Rattle.journal_core.specs.Entries.{effects}
-use Rattle.journal_core.specs.declared.entries.Entry.{Entry}
-use Rattle.journal_core.specs.declared.outcome.Effect.{Effect}
-use Rattle.device_state.specs.StateAfter.{part_of, IsStateAfter}
+use Rattle.journal_core.specs.{Entries.effects, declared.entries.Entry.Entry, declared.outcome.Effect.Effect}
+use Rattle.device_state.specs.{StateAfter.part_of, StateAfter.IsStateAfter, Entered.IsEntered, EnteredLists.Fits, EnteredLists.lists_of, declared.state.State.State}
 use Rattle.device_rules.specs.Views.{lists_in, view_after, view_of}
-use Rattle.extent_list.specs.HostLists.{Lists}
-use Rattle.device_state.specs.Entered.{IsEntered}
-use Rattle.device_state.specs.EnteredLists.{Fits, lists_of}
 use Rattle.event_log.specs.LogStates.{LogState}
-use Rattle.device_state.specs.declared.state.State.{State}
 
 -- the lists of a host after more effects
 abbrev pub lists_after : Configuration → HostId → List Entry → List Effect → Lists

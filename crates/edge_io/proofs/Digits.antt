@@ -1,6 +1,5 @@
 -- Numbers of few digits.
-use Rattle.std.proofs.Common.{ℕ, ◌*◌, ◌^◌, ◌<◌, arith}
-use Rattle.std.proofs.Math.Nat.{pow-le-pow_right}
+use Rattle.std.proofs.{Common.ℕ, Common.◌*◌, Common.◌^◌, Common.◌<◌, Common.arith, Math.Nat.pow-le-pow_right}
 
 -- so few digits write a number of 64 bits
 pub small : (i n : ℕ) → i < 18 → n < 10 ^ i → 10 * n < 10 ^ 18

@@ -1,14 +1,9 @@
 -- From what comes of a task to how the run ends.
 use Rattle.std.proofs.Common.{◌≡◌, ℕ, ◌+◌, List, [], Option, Some, None, inr, sym, subst}
 use Rattle.dcd_base.specs.Streams.{HasRisen, Passes}
-use Rattle.edge_io.specs.ReadEnds.{TakesAtMost}
-use Rattle.edge_io.specs.declared.ends.End.{End}
-use Rattle.edge_io.specs.declared.ends.Stop.{Stop}
-use Rattle.edge_io.specs.Ends.{IsDecided, UnlessAnswered, stop_end}
-use Rattle.edge_io.specs.Meanings.{Decides, Meaning}
+use Rattle.edge_io.{proofs.Inputs.told_is, specs.Ends.IsDecided, specs.Ends.UnlessAnswered, specs.Ends.stop_end, specs.Meanings.Decides, specs.Meanings.Meaning, specs.ReadEnds.TakesAtMost}
+use Rattle.edge_io.specs.{Settling.IsSettled, Settling.IsStopped, declared.ends.End.End, declared.ends.Stop.Stop}
 use Rattle.edge_io.specs.Runs.{AsksToRead, EndsAs, EndsSo, IsPlanned, IsRead, IsSound, IsTold, IsUnread, IsWritten, Seen}
-use Rattle.edge_io.specs.Settling.{IsSettled, IsStopped}
-use Rattle.edge_io.proofs.Inputs.{told_is}
 
 same_task : {T : Type 0} (a b : T) → Some a ≡ Some b → a ≡ b
 same_task a b e = cc

@@ -1,10 +1,8 @@
 -- What was read from a source, piece by piece.
 use Rattle.std.proofs.Common.{◌≡◌, ℕ, ◌+◌, take, ◌<◌, ◌≤◌, List, ◌++◌, Option, Some, None, length, sym, ap, ◌∙◌, arith}
-use Rattle.std.specs.Option.{IfSome}
-use Rattle.std.proofs.lemmas.List.{append-nil, length-append, length-take, take_at}
+use Rattle.std.{specs.Option.IfSome, proofs.lemmas.List.append-nil, proofs.lemmas.List.length-append, proofs.lemmas.List.length-take, proofs.lemmas.List.take_at}
 use Rattle.edge_io.specs.ReadEnds.{TakesAtMost, TakesAll, TakesMore}
-use Rattle.dcd_base.specs.Streams.{with_front}
-use Rattle.dcd_base.proofs.Passing.{with_front_twice}
+use Rattle.dcd_base.{specs.Streams.with_front, proofs.Passing.with_front_twice}
 
 never : {A : Type 0} (x : A) → Some x ≡ None → ⊥
 never x e = cc

@@ -1,16 +1,9 @@
 -- What was read is the input of a task.
 use Rattle.std.proofs.Common.{◌≡◌, ℕ, ◌<◌, List, Option, Some, None, Ok, Err, inl, inr, refl, sym, subst, ◌∙◌, length, arith}
-use Rattle.std.specs.Prelude.{IfOk}
-use Rattle.std.specs.Option.{IfSome}
-use Rattle.std.specs.declared.result.Result.{Result}
+use Rattle.std.specs.{Prelude.IfOk, Option.IfSome, declared.result.Result.Result}
 use Rattle.dcd_base.specs.declared.failures.NoMemory.{NoMemory}
-use Rattle.edge_io.specs.ReadEnds.{Ends, TakesMore}
-use Rattle.edge_io.specs.declared.reading.ReadEnd.{ReadEnd}
-use Rattle.edge_io.proofs.Fronts.{all_is, more_left}
-use Rattle.edge_io.specs.declared.ends.Stop.{Stop}
-use Rattle.edge_io.specs.Meanings.{Decides, Meaning}
-use Rattle.edge_io.specs.Runs.{IsRead, IsTold, ReadsFront}
-use Rattle.edge_io.specs.Settling.{Settles, or_stop}
+use Rattle.edge_io.{proofs.Fronts.all_is, proofs.Fronts.more_left, specs.Meanings.Decides, specs.Meanings.Meaning, specs.ReadEnds.Ends, specs.ReadEnds.TakesMore}
+use Rattle.edge_io.specs.{Runs.IsRead, Runs.IsTold, Runs.ReadsFront, Settling.Settles, Settling.or_stop, declared.ends.Stop.Stop, declared.reading.ReadEnd.ReadEnd}
 
 -- An input that is told is the one that was read.
 pub told_is : (most : Option ℕ) (left now : Option (List ℕ)) (input told : List ℕ) → IsRead most left now input → IsTold most left told → told ≡ input

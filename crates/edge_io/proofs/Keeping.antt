@@ -1,6 +1,5 @@
 -- What a writer holds, where a write takes none of it.
-use Rattle.std.proofs.Common.{ℕ, take, List, Option, Some, None, ◌∙◌}
-use Rattle.std.proofs.lemmas.List.{append-nil}
+use Rattle.std.proofs.{Common.ℕ, Common.take, Common.List, Common.Option, Common.Some, Common.None, Common.◌∙◌, lemmas.List.append-nil}
 use Rattle.std.specs.Io.KnownBytes.{Appends, Keeps}
 
 -- To take no byte of a piece is to keep what there was.

@@ -1,8 +1,7 @@
 -- Words where none is taken.
 use Rattle.std.proofs.Common.{◌≡◌, ℕ, List, [], ◌∷◌, Option, Some, None, length, refl, arith}
 use Rattle.std.specs.Prelude.{◌≢◌, String}
-use Rattle.edge_io.specs.Words.{words_of}
-use Rattle.edge_io.specs.Meanings.{asks_nothing}
+use Rattle.edge_io.specs.{Words.words_of, Meanings.asks_nothing}
 
 pub none_taken : {Z : Type 0} (words : List (String Z)) → length words ≡ 0 → words_of words ≡ []
 none_taken [] none = refl

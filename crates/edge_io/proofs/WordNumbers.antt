@@ -1,7 +1,6 @@
 -- A word writes a number just where the test says so.
 use Rattle.std.proofs.Common.{◌≡◌, ℕ, true, ◌&&◌, leb, List, length, refl}
-use Rattle.std.specs.List.{list_all}
-use Rattle.std.proofs.lemmas.Bool.{and_from, and_parts, le-leb, leb-true}
+use Rattle.std.{proofs.lemmas.Bool.and_from, proofs.lemmas.Bool.and_parts, proofs.lemmas.Bool.le-leb, proofs.lemmas.Bool.leb-true, specs.List.list_all}
 use Rattle.edge_io.specs.Words.{IsNumber, is_digit, is_number, number_in}
 
 pub number_is : (most : ℕ) (digits : List ℕ) → is_number most digits ≡ true → IsNumber most digits (number_in digits)

@@ -1,7 +1,6 @@
 -- What the ends of a run are to the outside.
 use Rattle.std.specs.Prelude.{ℕ}
-use Rattle.edge_io.specs.declared.ends.End.{End}
-use Rattle.edge_io.specs.declared.ends.Stop.{Stop}
+use Rattle.edge_io.specs.declared.ends.{End.End, Stop.Stop}
 
 -- the exit status of the program
 abbrev pub number_of : End → ℕ

@@ -1,7 +1,6 @@
 -- What a program is: T are its tasks, which words ask for, and E the statuses at its end.
 use Rattle.std.specs.Prelude.{◌≡◌, ◌≢◌, ℕ, List, [], Option, Some, None}
-use Rattle.edge_io.specs.declared.ends.End.{End}
-use Rattle.edge_io.specs.Ends.{IsDecided}
+use Rattle.edge_io.specs.{declared.ends.End.End, Ends.IsDecided}
 
 pub record Meaning (T E : Type 0) : Type 1 where
   -- it is what the words ask for, or nothing where they are refused

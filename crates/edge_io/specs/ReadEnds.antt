@@ -1,6 +1,5 @@
 -- How the reading of a source to its end goes.
-use Rattle.std.specs.Prelude.{◌≡◌, ℕ, ◌+◌, ◌≤◌, List, length, Option}
-use Rattle.std.specs.declared.result.Result.{Result}
+use Rattle.std.specs.{Prelude.◌≡◌, Prelude.ℕ, Prelude.◌+◌, Prelude.◌≤◌, Prelude.List, Prelude.length, Prelude.Option, declared.result.Result.Result}
 use Rattle.std.specs.declared.result.Result.TheVariants.{Ok, Err}
 use Rattle.dcd_base.specs.Streams.{HasRisen, IsAtEnd, with_front}
 use Rattle.edge_io.specs.declared.reading.ReadEnd.{ReadEnd}

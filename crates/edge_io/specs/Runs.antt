@@ -2,11 +2,7 @@
 use Rattle.std.specs.Prelude.{◌≡◌, ◌⊎◌, ℕ, ◌+◌, ◌<◌, List, [], length, Option, Some, None, String}
 use Rattle.std.specs.Option.{IfSome}
 use Rattle.dcd_base.specs.Streams.{HasRisen, Passes}
-use Rattle.edge_io.specs.ReadEnds.{TakesAll, TakesAtMost, TakesMore}
-use Rattle.edge_io.specs.Words.{words_of}
-use Rattle.edge_io.specs.declared.ends.End.{End}
-use Rattle.edge_io.specs.Ends.{UnlessAnswered}
-use Rattle.edge_io.specs.Meanings.{Meaning}
+use Rattle.edge_io.specs.{ReadEnds.TakesAll, ReadEnds.TakesAtMost, ReadEnds.TakesMore, Words.words_of, declared.ends.End.End, Ends.UnlessAnswered, Meanings.Meaning}
 
 -- ---- what is seen of a source and a sink, before and after
 

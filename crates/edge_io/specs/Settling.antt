@@ -1,11 +1,7 @@
 -- What comes of a task before anything is written.
-use Rattle.std.specs.Prelude.{ℕ, List, Option}
-use Rattle.std.specs.declared.result.Result.{Result}
-use Rattle.std.specs.declared.result.Result.TheVariants.{Ok, Err}
+use Rattle.std.specs.{Prelude.ℕ, Prelude.List, Prelude.Option, declared.result.Result.Result, declared.result.Result.TheVariants.Ok, declared.result.Result.TheVariants.Err}
 use Rattle.dcd_base.specs.declared.failures.NoMemory.{NoMemory}
-use Rattle.edge_io.specs.declared.ends.Stop.{Stop}
-use Rattle.edge_io.specs.Meanings.{Decides, Meaning}
-use Rattle.edge_io.specs.Runs.{IsRead, IsUnread}
+use Rattle.edge_io.specs.{declared.ends.Stop.Stop, Meanings.Decides, Meanings.Meaning, Runs.IsRead, Runs.IsUnread}
 
 -- what was decided, or for want of memory nothing
 abbrev pub or_stop : {A : Type 0} → Result A NoMemory → Result A Stop

@@ -1,7 +1,6 @@
 -- The words of a command line, and the numbers that they write.
 use Rattle.std.specs.Prelude.{◌≡◌, ℕ, ◌+◌, ◌-◌, ◌*◌, ◌≤◌, Bool, ◌&&◌, nat_le, List, length, map, fold, IsTrue, Option, Some, None, if◌then◌else◌, String}
-use Rattle.std.specs.List.{list_all}
-use Rattle.std.specs.String.{string_bytes}
+use Rattle.std.specs.{List.list_all, String.string_bytes}
 
 -- the bytes of each word
 abbrev pub words_of : {Z : Type 0} → List (String Z) → List (List ℕ)

@@ -1,11 +1,8 @@
 -- Why handles cannot be cleared, one place at a time.
 use Rattle.std.proofs.Common.{ℕ, ◌≡◌, ◌==◌, ◌+◌, ◌<◌, if◌then◌else◌, List, drop, length, get_or, inl, inr, Some, None, slice_get, refl}
-use Rattle.std.proofs.lemmas.Bool.{eq-eqb, ne_eqb}
-use Rattle.std.proofs.lemmas.List.{drop_more, drop_all}
-use Rattle.std.proofs.lemmas.Option.{slice_get_within, slice_get_cases, get_or_from_slice_get}
+use Rattle.std.proofs.lemmas.{Bool.eq-eqb, Bool.ne_eqb, List.drop_more, List.drop_all, Option.slice_get_within, Option.slice_get_cases, Option.get_or_from_slice_get}
 use Rattle.event_records.specs.declared.events.Event.{Event}
-use Rattle.event_log.specs.declared.faults.ClearFault.TheVariants.{UnknownHandle}
-use Rattle.event_log.specs.LogStates.{clear_fault, handle_fault}
+use Rattle.event_log.specs.{declared.faults.ClearFault.TheVariants.UnknownHandle, LogStates.clear_fault, LogStates.handle_fault}
 
 -- a place where there is a record
 at_record : (handles : List ℕ) (records : List Event) (i : ℕ) (e : Event) → i < length handles → slice_get records i ≡ Some e

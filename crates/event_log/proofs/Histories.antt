@@ -1,7 +1,6 @@
 -- What each call makes of a log is what its history makes of it.
 use Rattle.std.proofs.Common.{ℕ, ◌≡◌, ◌+◌, ◌-◌, ◌%◌, ◌<◌, ◌≤◌, inl, inr, List, ◌∷◌, [], ◌++◌, drop, length, get_or, refl, sym, ◌∙◌, ap, arith, length-append, length-drop}
-use Rattle.std.proofs.Math.Nat.{eq-or-lt_of_le, mod-add-mod}
-use Rattle.std.proofs.lemmas.List.{get_or_push, get_or_append_left, drop-append-le, drop-drop, drop_all}
+use Rattle.std.proofs.{Math.Nat.eq-or-lt_of_le, Math.Nat.mod-add-mod, lemmas.List.get_or_push, lemmas.List.get_or_append_left, lemmas.List.drop-append-le, lemmas.List.drop-drop, lemmas.List.drop_all}
 use Rattle.event_records.specs.declared.events.Event.{Event}
 use Rattle.event_log.specs.LogStates.{handle_after, new_log, with_record, without_oldest}
 use Rattle.event_log.specs.Logs.{Follows, IsHistory, Log, StaysHistory, cleared_of, empty_log, next_handle, recorded, records_in, state_of}

@@ -2,8 +2,7 @@
 use Rattle.std.specs.Prelude.{ℕ, ◌+◌, ◌%◌, ◌≤◌, ◌<◌, ◌==◌, Bool, if◌then◌else◌, Option, Some, None, List, [], ◌∷◌, ◌++◌, drop, length, min}
 use Rattle.std.specs.List.{list_any}
 use Rattle.event_records.specs.declared.events.Event.{Event}
-use Rattle.event_log.specs.declared.faults.ClearFault.{ClearFault}
-use Rattle.event_log.specs.declared.faults.ClearFault.TheVariants.{OlderLeft, UnknownHandle}
+use Rattle.event_log.specs.declared.faults.ClearFault.{ClearFault, TheVariants.OlderLeft, TheVariants.UnknownHandle}
 
 -- how many records a log can have, those that are in it (the oldest first), the handle of the next one, and how many found it full
 pub record LogState : Type 0 where

@@ -1,7 +1,6 @@
 -- A log as the history of the device tells it.
 use Rattle.std.specs.Prelude.{◌≡◌, ℕ, ◌+◌, ◌-◌, ◌%◌, ◌<◌, ◌≤◌, min, slice_index_or, List, [], ◌∷◌, ◌++◌, drop, fold, length}
-use Rattle.dcd_base.specs.Limits.{host_records, manager_records}
-use Rattle.dcd_base.specs.declared.steps.LogId.{LogId}
+use Rattle.dcd_base.specs.{Limits.host_records, Limits.manager_records, declared.steps.LogId.LogId}
 use Rattle.event_records.specs.declared.events.Event.{Event}
 use Rattle.event_log.specs.LogStates.{LogState, emptied, with_missed, with_record, without_oldest}
 

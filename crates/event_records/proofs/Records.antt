@@ -1,17 +1,11 @@
 -- A record reads as the event of its bytes, and as no other.
 use Rattle.std.proofs.Common.{◌≡◌, ℕ, ◌^◌, ◌<◌, ◌≤◌, Bool, true, false, cond, not, eqb, ltb, List, [], ◌∷◌, ◌++◌, length, take, slice_index, Option, Some, None, refl, sym, ap, ◌∙◌, arith, eqb-true, eq-eqb, ltb-false, le-ltb}
-use Rattle.std.specs.List.{list_all}
+use Rattle.std.{specs.List.list_all, proofs.lemmas.Grind.flat_map-append, specs.Int.w16, specs.Int.w32, specs.Int.w64}
 use lib.Pointwise.{pointwise, bytes_decides}
-use Rattle.std.proofs.lemmas.Grind.{flat_map-append}
-use Rattle.std.specs.Int.{w16, w32, w64}
-use Rattle.event_records.specs.declared.events.Event.{Event}
-use Rattle.event_records.specs.declared.events.EventKind.{EventKind}
-use Rattle.event_records.specs.declared.faults.RecordFault.{RecordFault}
+use Rattle.event_records.specs.declared.{events.Event.Event, events.EventKind.EventKind, faults.RecordFault.RecordFault}
 use Rattle.event_records.specs.Records.{record_uuid, record_fault, kind_number, head_bytes, end_bytes, record_bytes, record_head, end_fields, record_fields, IsEventIn, ReadsRecord, WritesRecord}
-use Rattle.dcd_base.specs.Extents.{extent_bytes, extent_fields}
+use Rattle.dcd_base.{proofs.Fields.IsBytes, proofs.Fields.spelled_reads, proofs.Widths.wide_16, proofs.Widths.wide_32, proofs.Widths.wide_64, specs.Extents.extent_bytes, specs.Extents.extent_fields}
 use Rattle.dcd_base.specs.Layouts.{spell, spelling, is_byte}
-use Rattle.dcd_base.proofs.Fields.{IsBytes, spelled_reads}
-use Rattle.dcd_base.proofs.Widths.{wide_16, wide_32, wide_64}
 use Rattle.dcd_base.proofs.Places.{Reads-from, all_from, byte_found, byte_only, end_found, fixed_found, fixed_only, flag_fits, flag_found, flag_only, number_found, number_only, raw_found, raw_only, reserved_found, reserved_only}
 
 pub record_in_parts : (e : Event) → record_bytes e ≡ head_bytes e ++ extent_bytes e.extent ++ end_bytes e

@@ -1,10 +1,8 @@
 -- The record of an event, in 128 bytes.
 use Rattle.std.specs.Prelude.{◌≡◌, ℕ, not, ◌==◌, nat_lt, List, [], ◌∷◌, ◌++◌, take, drop, slice_index, bit_and, Option, Some, None, Result, Ok, Err, if◌then◌else◌}
 use lib.Pointwise.{pointwise}
-use Rattle.event_records.specs.declared.faults.RecordFault.{RecordFault}
+use Rattle.event_records.specs.declared.{faults.RecordFault.RecordFault, events.EventKind.EventKind, events.Event.Event}
 use Rattle.std.specs.Int.{w8, w16, w32, w64}
-use Rattle.event_records.specs.declared.events.EventKind.{EventKind}
-use Rattle.event_records.specs.declared.events.Event.{Event}
 use Rattle.dcd_base.specs.Extents.{extent_fields}
 use Rattle.dcd_base.specs.Layouts.{Field, flag, spelling, number_at, Number, Raw, Reserved, Fixed, Reads, Writes}
 

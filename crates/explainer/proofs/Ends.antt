@@ -1,10 +1,6 @@
 -- From how the line on a refusal ends to how the run of the input ends.
-use Rattle.std.proofs.Common.{ℕ, List, Option, refl}
-use Rattle.std.specs.Prelude.{◌≢◌}
-use Rattle.explainer.specs.Converting.{IsRefused}
-use Rattle.explainer.specs.Runs.{EndsLine, EndsOf, IsSaid, refusal_text}
-use Rattle.explainer.specs.declared.converting.Task.{Task}
-use Rattle.explainer.specs.declared.converting.Refusal.{Refusal}
+use Rattle.std.{proofs.Common.ℕ, proofs.Common.List, proofs.Common.Option, proofs.Common.refl, specs.Prelude.◌≢◌}
+use Rattle.explainer.specs.{Converting.IsRefused, Runs.EndsLine, Runs.EndsOf, Runs.IsSaid, Runs.refusal_text, declared.converting.Refusal.Refusal, declared.converting.Task.Task}
 use Rattle.explainer.specs.declared.status.Status.{Status}
 
 pub refused_ends : (name : List ℕ) (task : Task) (input : List ℕ) (refusal : Refusal) (old : Option (List ℕ)) (faults : ℕ) (new : Option (List ℕ)) (count : ℕ) (status : Status) → (refusal ≢ Refusal.NoMemory) → IsRefused task input refusal

@@ -1,12 +1,8 @@
 -- Entries, records and hosts that are put one after another.
 use Rattle.std.proofs.Common.{◌≡◌, Bool, true, false, ◌&&◌, ℕ, zero, suc, ◌+◌, ◌<◌, List, [], ◌∷◌, ◌++◌, drop, take, length, Option, Some, None, sym, ap, subst, ◌∙◌, append-nil, append_assoc, arith}
-use Rattle.std.specs.List.{flat_map, list_all}
-use Rattle.std.specs.Prelude.{slice_get}
-use Rattle.std.proofs.lemmas.Bool.{and_parts}
-use Rattle.std.proofs.lemmas.List.{flat_map_more}
+use Rattle.std.{specs.List.flat_map, specs.List.list_all, specs.Prelude.slice_get, proofs.lemmas.Bool.and_parts, proofs.lemmas.List.flat_map_more}
 use Rattle.journal_core.specs.declared.entries.Entry.{Entry}
-use Rattle.journal_check.specs.kept_journal.specs.Lending.{first_entry}
-use Rattle.journal_check.specs.kept_journal.proofs.Lists.{next_and_left, nothing_left}
+use Rattle.journal_check.specs.kept_journal.{specs.Lending.first_entry, proofs.Lists.next_and_left, proofs.Lists.nothing_left}
 
 -- what all members are, one of them is
 pub member_has : {X : Type 0} (p : X → Bool) (xs : List X) (i : ℕ) (x : X) → list_all p xs ≡ true → slice_get xs i ≡ Some x → p x ≡ true

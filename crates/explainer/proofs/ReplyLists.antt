@@ -1,10 +1,7 @@
 -- Parts, hosts and items that are put one after another.
 use Rattle.std.proofs.Common.{◌≡◌, ℕ, zero, suc, ◌+◌, ◌-◌, ◌*◌, ◌<◌, ◌≤◌, List, [], ◌∷◌, ◌++◌, take, drop, sym, ap, ◌∙◌, append-nil, append_assoc, arith}
-use Rattle.std.specs.List.{flat_map}
-use Rattle.std.specs.Prelude.{OnOk}
-use Rattle.std.specs.declared.result.Result.{Result}
+use Rattle.std.{proofs.Math.Nat.mul-suc, specs.List.flat_map, specs.Prelude.OnOk, specs.declared.result.Result.Result}
 use Rattle.std.specs.declared.result.Result.TheVariants.{Ok, Err}
-use Rattle.std.proofs.Math.Nat.{mul-suc}
 use Rattle.dcd_base.specs.Layouts.{pieces}
 use Rattle.explainer.specs.PartWords.{host_where, hosts_below}
 

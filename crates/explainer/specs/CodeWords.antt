@@ -1,8 +1,6 @@
 -- Return codes in words.
 use Rattle.std.specs.Prelude.{ℕ, ◌==◌, List, ◌++◌, Option, Some, None, if◌then◌else◌, codes}
-use Rattle.dcd_codes.specs.Names.{name_of}
-use Rattle.dcd_codes.specs.Rules.{number_of}
-use Rattle.dcd_codes.specs.declared.codes.Code.{Code}
+use Rattle.dcd_codes.specs.{Names.name_of, Rules.number_of, declared.codes.Code.Code}
 use Rattle.script_text.specs.text_lines.specs.Numbers.{hexadecimal}
 
 -- the code of a number, where the device answers one of it

@@ -1,8 +1,6 @@
 -- Where a word of a text stands.
 use Rattle.std.specs.Prelude.{ℕ, zero, suc, ◌+◌, ◌-◌, List, length, drop}
-use Rattle.script_text.specs.text_lines.specs.Characters.{passed_from, is_gap, is_plain}
-use Rattle.script_text.specs.text_lines.specs.Extents.{before, after}
-use Rattle.script_text.specs.text_lines.specs.Words.{without_return}
+use Rattle.script_text.specs.text_lines.specs.{Characters.passed_from, Characters.is_gap, Characters.is_plain, Extents.before, Extents.after, Words.without_return}
 
 -- the text from the line on that comes so many lines later
 abbrev pub lines_later : ℕ → List ℕ → List ℕ

@@ -1,21 +1,9 @@
 -- What a text, a script or a frame is turned into.
 use Rattle.std.specs.Prelude.{◌≡◌, ◌≢◌, ℕ, ◌<◌, ◌≤◌, List, length, Some, Result, Ok, Err}
-use Rattle.explainer.specs.Explaining.{IsExplained}
-use Rattle.script_text.specs.script_codec.specs.Frames.{needed, script_part, text_part}
-use Rattle.script_text.specs.script_codec.specs.Reading.{first_fault}
-use Rattle.script_text.specs.script_codec.specs.Scripts.{ReadsScript}
-use Rattle.script_text.specs.script_codec.specs.Writing.{script_bytes}
-use Rattle.script_text.specs.script_codec.specs.declared.faults.ScriptFault.{ScriptFault}
-use Rattle.script_text.specs.script_codec.specs.declared.scripts.Script.{Script}
-use Rattle.script_text.specs.Layouts.{Says}
-use Rattle.script_text.specs.Printing.{script_text}
-use Rattle.script_text.specs.Texts.{script_said}
-use Rattle.script_text.specs.text_lines.specs.declared.faults.Cause.{Cause}
-use Rattle.script_text.specs.text_lines.specs.declared.faults.TextFault.{TextFault}
-use Rattle.explainer.specs.Columns.{column_of}
-use Rattle.explainer.specs.declared.columns.Place.{Place}
-use Rattle.explainer.specs.declared.converting.Refusal.{Refusal}
-use Rattle.explainer.specs.declared.converting.Task.{Task}
+use Rattle.explainer.specs.{Explaining.IsExplained, Columns.column_of, declared.columns.Place.Place, declared.converting.Refusal.Refusal, declared.converting.Task.Task}
+use Rattle.script_text.specs.{Layouts.Says, Printing.script_text, Texts.script_said, script_codec.specs.Frames.needed, script_codec.specs.Frames.script_part, script_codec.specs.Frames.text_part}
+use Rattle.script_text.specs.script_codec.specs.{Reading.first_fault, Scripts.ReadsScript, Writing.script_bytes, declared.faults.ScriptFault.ScriptFault, declared.scripts.Script.Script}
+use Rattle.script_text.specs.text_lines.specs.declared.faults.{Cause.Cause, TextFault.TextFault}
 
 -- The input has all bytes of its script, which is read, and this is what explaining its text answers.
 pub record IsFrameExplained (input : List ℕ) (answer : Result (List ℕ) ℕ) : Type 0 where

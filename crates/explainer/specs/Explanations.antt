@@ -1,27 +1,15 @@
 -- What an explanation says of a script and a journal.
 use Rattle.std.specs.Prelude.{ℕ, ◌-◌, List, [], ◌∷◌, ◌++◌, length, slice_get, Option, Some, None, codes, decimal}
 use Rattle.std.specs.List.{flat_map}
-use Rattle.dcd_base.specs.declared.failures.AccessFault.{AccessFault}
-use Rattle.dcd_base.specs.declared.ids.HostId.{HostId}
-use Rattle.dcd_base.specs.declared.steps.LogId.{LogId}
-use Rattle.event_records.specs.Records.{record_bytes}
-use Rattle.event_records.specs.declared.events.Event.{Event}
-use Rattle.region_config.specs.Configurations.{Configuration}
-use Rattle.region_config.specs.Granules.{hosts_of}
-use Rattle.journal_core.specs.declared.acts.Reply.{Reply}
-use Rattle.journal_core.specs.declared.entries.Entry.{Entry}
-use Rattle.journal_core.specs.declared.outcome.Effect.{Effect}
-use Rattle.journal_core.specs.Entries.{effects}
+use Rattle.dcd_base.specs.declared.{failures.AccessFault.AccessFault, ids.HostId.HostId, steps.LogId.LogId}
+use Rattle.event_records.specs.{Records.record_bytes, declared.events.Event.Event}
+use Rattle.region_config.specs.{Configurations.Configuration, Granules.hosts_of}
+use Rattle.journal_core.specs.{declared.acts.Reply.Reply, declared.entries.Entry.Entry, declared.outcome.Effect.Effect, Entries.effects}
 use Rattle.journal_check.specs.device_rules.specs.Counts.{dirty_count, extent_count, free_count, granules_held, missed_of, records_of}
 use Rattle.journal_check.specs.report.specs.Texts.{host_name, log_name}
-use Rattle.script_text.specs.script_codec.specs.declared.script_line.Line.{Line}
-use Rattle.script_text.specs.script_codec.specs.declared.scripts.Script.{Script}
+use Rattle.script_text.specs.{LinePrinting.printed_words, script_codec.specs.declared.script_line.Line.Line, script_codec.specs.declared.scripts.Script.Script, text_lines.specs.Words.line_text}
 use Rattle.script_text.specs.text_lines.specs.declared.actors.Frame.{Frame}
-use Rattle.script_text.specs.LinePrinting.{printed_words}
-use Rattle.script_text.specs.text_lines.specs.Words.{line_text}
-use Rattle.explainer.specs.PartWords.{detail, labelled, labelled_size}
-use Rattle.explainer.specs.RecordWords.{record_words}
-use Rattle.explainer.specs.ReplyWords.{answer_lines}
+use Rattle.explainer.specs.{PartWords.detail, PartWords.labelled, PartWords.labelled_size, RecordWords.record_words, ReplyWords.answer_lines}
 
 -- ---- an entry: the line of the script that asked for it, and what was answered
 

@@ -2,9 +2,7 @@
 use Rattle.std.specs.Prelude.{ℕ, List, [], ◌∷◌, ◌++◌, codes, decimal}
 use Rattle.cci_codec.specs.declared.faults.MessageFault.{MessageFault}
 use Rattle.region_config.specs.declared.faults.ConfigFault.{ConfigFault}
-use Rattle.script_text.specs.text_lines.specs.Keywords.{keyword_text}
-use Rattle.script_text.specs.text_lines.specs.declared.faults.Cause.{Cause}
-use Rattle.script_text.specs.text_lines.specs.declared.faults.Wanted.{Wanted}
+use Rattle.script_text.specs.text_lines.specs.{Keywords.keyword_text, declared.faults.Cause.Cause, declared.faults.Wanted.Wanted}
 
 -- what the grammar has at a place
 abbrev pub wanted_text : Wanted → List ℕ

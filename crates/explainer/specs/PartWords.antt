@@ -1,18 +1,8 @@
 -- Parts of replies in words.
 use Rattle.std.specs.Prelude.{ℕ, zero, suc, ◌+◌, ◌-◌, ◌*◌, ◌^◌, ◌==◌, min, Bool, List, [], ◌∷◌, ◌++◌, map, slice_index, bit_and, if◌then◌else◌, codes, decimal}
-use Rattle.std.specs.List.{flat_map}
-use Rattle.std.specs.Int.{w16, w32, w64}
-use Rattle.dcd_base.specs.Hosts.{has_host}
-use Rattle.dcd_base.specs.Words.{is_zero_tag}
-use Rattle.dcd_base.specs.declared.capacity.Extent.{Extent}
-use Rattle.dcd_base.specs.declared.capacity.Tag.{Tag}
-use Rattle.dcd_base.specs.Layouts.{number_at}
-use Rattle.dcd_base.specs.Payloads.{has_flag, tag_at}
-use Rattle.script_text.specs.text_lines.specs.Extents.{extent_text}
-use Rattle.script_text.specs.text_lines.specs.Numbers.{size_text}
-use Rattle.script_text.specs.text_lines.specs.Pairs.{pair_text, tag_text}
-use Rattle.script_text.specs.text_lines.specs.Sizes.{sizes_text}
-use Rattle.script_text.specs.text_lines.specs.Words.{spaced}
+use Rattle.std.specs.{List.flat_map, Int.w16, Int.w32, Int.w64}
+use Rattle.dcd_base.specs.{Hosts.has_host, Words.is_zero_tag, declared.capacity.Extent.Extent, declared.capacity.Tag.Tag, Layouts.number_at, Payloads.has_flag, Payloads.tag_at}
+use Rattle.script_text.specs.text_lines.specs.{Extents.extent_text, Numbers.size_text, Pairs.pair_text, Pairs.tag_text, Sizes.sizes_text, Words.spaced}
 
 -- a label and a number behind it: a count, an index, a handle
 unfoldable pub labelled : List ℕ → ℕ → List ℕ

@@ -1,11 +1,8 @@
 -- Event records in words.
 use Rattle.std.specs.Prelude.{ℕ, ◌==◌, Bool, true, false, List, ◌++◌, slice_index, if◌then◌else◌, codes}
-use Rattle.std.specs.Option.{is_none}
-use Rattle.std.specs.Int.{w16, w32}
-use Rattle.event_records.specs.Records.{kind_number, record_fault}
-use Rattle.event_records.specs.declared.events.EventKind.{EventKind}
-use Rattle.dcd_base.specs.Layouts.{number_at}
-use Rattle.dcd_base.specs.Payloads.{has_flag}
+use Rattle.std.specs.{Option.is_none, Int.w16, Int.w32}
+use Rattle.event_records.specs.{Records.kind_number, Records.record_fault, declared.events.EventKind.EventKind}
+use Rattle.dcd_base.specs.{Layouts.number_at, Payloads.has_flag}
 use Rattle.explainer.specs.PartWords.{bytes_words, extent_in, extent_words, label_where, labelled}
 
 -- the name of a kind in the specification, by its number

@@ -1,14 +1,11 @@
 -- Replies in words.
 use Rattle.std.specs.Prelude.{ℕ, ◌*◌, ◌==◌, List, [], ◌∷◌, ◌++◌, drop, slice_index, bit_and, Option, Some, None, if◌then◌else◌, codes}
-use Rattle.std.specs.List.{flat_map}
-use Rattle.std.specs.Int.{w16, w32}
+use Rattle.std.specs.{List.flat_map, Int.w16, Int.w32}
 use Rattle.dcd_base.specs.Layouts.{number_at, pieces}
 use Rattle.script_text.specs.text_lines.specs.Numbers.{hexadecimal}
-use Rattle.explainer.specs.CodeWords.{return_code_words}
+use Rattle.explainer.specs.{CodeWords.return_code_words, RecordWords.record_words}
+use Rattle.explainer.specs.{ReplyKinds.has_kind, ReplyKinds.head_length, ReplyKinds.item_count, ReplyKinds.item_length, ReplyKinds.kind_of_opcode, declared.kinds.ReplyKind.ReplyKind}
 use Rattle.explainer.specs.PartWords.{bytes_words, counts_words, detail, extent_in, extent_words, label_where, labelled, live_tag_words, region_words, sizes_words}
-use Rattle.explainer.specs.RecordWords.{record_words}
-use Rattle.explainer.specs.ReplyKinds.{has_kind, head_length, item_count, item_length, kind_of_opcode}
-use Rattle.explainer.specs.declared.kinds.ReplyKind.{ReplyKind}
 
 -- ---- heads
 

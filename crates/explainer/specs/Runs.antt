@@ -2,15 +2,10 @@
 use Rattle.std.specs.Prelude.{◌≡◌, ◌≢◌, ◌⊎◌, ℕ, List, [], Option, Some, None, codes}
 use Rattle.dcd_base.specs.Streams.{HasRisen, Passes}
 use Rattle.edge_io.specs.ReadEnds.{TakesAll, TakesMore}
-use Rattle.journal_check.specs.Frames.{most_input}
-use Rattle.journal_check.specs.report.specs.Refusals.{refusal_line}
+use Rattle.journal_check.specs.{Frames.most_input, report.specs.Refusals.refusal_line}
 use Rattle.script_text.specs.script_codec.specs.declared.faults.ScriptFault.{ScriptFault}
-use Rattle.explainer.specs.Asking.{name_asked, task_asked}
-use Rattle.explainer.specs.Converting.{IsConverted, IsRefused}
-use Rattle.explainer.specs.Faults.{cut_line, fault_line, stopped_line}
-use Rattle.explainer.specs.declared.converting.Task.{Task}
-use Rattle.explainer.specs.declared.converting.Refusal.{Refusal}
-use Rattle.explainer.specs.declared.status.Status.{Status}
+use Rattle.explainer.specs.{Asking.name_asked, Asking.task_asked, Converting.IsConverted, Converting.IsRefused, Faults.cut_line, Faults.fault_line, Faults.stopped_line}
+use Rattle.explainer.specs.declared.{converting.Refusal.Refusal, converting.Task.Task, status.Status.Status}
 
 -- the most bytes of an input: 256 MiB of a text, as many as a script may have, and of a frame a script and a text
 abbrev pub most_of : Task → ℕ

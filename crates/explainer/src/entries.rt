@@ -16,9 +16,9 @@ use crate::{write_answer, write_labelled, write_labelled_size};
 use dcd_base::{AccessFault, Bytes, NoMemory};
 use journal_check::kept_journal::{Lender, Lent};
 use journal_core::ReplySeen;
-use script_text::write_line;
 use script_text::script_codec::{Line, Script};
 use script_text::text_lines::Frame;
+use script_text::write_line;
 use std::alloc::Global;
 
 /// Why a load or a store was refused.
@@ -88,7 +88,12 @@ fn frame_of(script: &Script) -> Frame
 }
 
 /// Appends a line of a script in the readable form.
-fn write_known_line(alloc: Global, frame: Frame, line: &Line, out: &mut Bytes) -> Result<(), NoMemory>
+fn write_known_line(
+    alloc: Global,
+    frame: Frame,
+    line: &Line,
+    out: &mut Bytes,
+) -> Result<(), NoMemory>
     requires lanes { IsTrue (are_lanes frame.version frame.lanes) }
     requires sound { IsTrue (is_sound_line frame.hosts frame.lanes line.now) }
     requires short { IsTrue (has_short_message line.now) }
@@ -99,7 +104,12 @@ fn write_known_line(alloc: Global, frame: Frame, line: &Line, out: &mut Bytes) -
 }
 
 /// Appends the line of the script of this number in the readable form.
-fn write_line_of(alloc: Global, script: &Script, number: u32, out: &mut Bytes) -> Result<(), NoMemory>
+fn write_line_of(
+    alloc: Global,
+    script: &Script,
+    number: u32,
+    out: &mut Bytes,
+) -> Result<(), NoMemory>
     requires { IsWritable script.now }
     ensures { OnOk result (out.new ≡ out.old ++ line_explained (script_frame script.now) (slice_get script.now.lines (number - 1))) }
 {

@@ -9,7 +9,12 @@ use crate::parts::{write_labelled, write_labelled_size};
 use dcd_base::{Bytes, NoMemory, u16_at, u32_at, u64_at};
 
 /// Appends a label and the byte at a place.
-pub(crate) fn write_u8(label: &[u8], bytes: &[u8], at: usize, out: &mut Bytes) -> Result<(), NoMemory>
+pub(crate) fn write_u8(
+    label: &[u8],
+    bytes: &[u8],
+    at: usize,
+    out: &mut Bytes,
+) -> Result<(), NoMemory>
     requires { at < length bytes.now }
     ensures { OnOk result (out.new ≡ out.old ++ labelled label.now (slice_index bytes.now at)) }
 {

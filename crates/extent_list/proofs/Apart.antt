@@ -1,18 +1,11 @@
 -- Lists of extents that stand apart: the owner of an extent, and no address twice.
 use Rattle.std.proofs.Common.{◌≡◌, ℕ, ◌+◌, ◌<◌, Bool, true, false, inl, inr, List, [], ◌∷◌, Some, None, length, get_or, take, option_map, refl, sym, ap, ◌∙◌, arith}
+use Rattle.std.proofs.lemmas.{Bool.and_left, Bool.and_right, Bool.cases_Bool, Bool.le-ltb, Iterator.Adapters.position_from-zero, List.get_or-take, List.length-take-le, List.Folds.list_any_at}
+use Rattle.std.proofs.lemmas.List.{Quantifiers.position-Some, Sums.position_or_len_is}
 use Rattle.std.specs.List.{list_any, position, position_from, position_or_len}
-use Rattle.std.proofs.lemmas.Iterator.Adapters.{position_from-zero}
-use Rattle.std.proofs.lemmas.Bool.{and_left, and_right, cases_Bool, le-ltb}
-use Rattle.std.proofs.lemmas.List.{get_or-take, length-take-le}
-use Rattle.std.proofs.lemmas.List.Folds.{list_any_at}
-use Rattle.std.proofs.lemmas.List.Quantifiers.{position-Some}
-use Rattle.std.proofs.lemmas.List.Sums.{position_or_len_is}
 use Rattle.dcd_base.specs.declared.capacity.Extent.{Extent}
 use Rattle.dcd_codes.specs.declared.rules.Rule.{Rule}
-use Rattle.extent_list.specs.ExtentLists.{is_in, lies_in, overlaps}
-use Rattle.extent_list.specs.Listing.{overlapping}
-use Rattle.extent_list.specs.Apart.{StandApart}
-use Rattle.extent_list.proofs.ApartLists.{only_holder}
+use Rattle.extent_list.{proofs.ApartLists.only_holder, specs.Apart.StandApart, specs.ExtentLists.is_in, specs.ExtentLists.lies_in, specs.ExtentLists.overlaps, specs.Listing.overlapping}
 use Rattle.extent_list.specs.Orders.{AreApart}
 
 -- a test that holds nowhere

@@ -1,16 +1,10 @@
 -- Lists of extents that stand apart: one extent more, a cut, and the only extent that has a range.
 use Rattle.std.proofs.Common.{◌≡◌, ◌⊎◌, ℕ, ◌+◌, ◌-◌, ◌<◌, ◌≤◌, true, inl, inr, All, List, [], ◌∷◌, ◌++◌, Some, length, get_or, take, refl, sym, subst, suc, zero, min, ◌^◌, ◌∙◌, arith, lt-ltb, append_assoc}
-use Rattle.std.specs.List.{position_or_len}
-use Rattle.std.specs.Prelude.{nat_lt}
-use Rattle.std.proofs.lemmas.Bool.{and_parts, cases_Bool, cases_lt, leb-true, ltb-true}
-use Rattle.std.proofs.lemmas.List.{take_more}
-use Rattle.std.proofs.lemmas.List.Elements.{All-append, All-cons, All-head, All-nil, All-push, All-tail}
-use Rattle.std.proofs.lemmas.List.Kept.{AllPairs-cons}
-use Rattle.std.proofs.lemmas.List.Quantifiers.{all_pairs_push}
-use Rattle.std.proofs.lemmas.List.Sums.{position_or_len_is}
+use Rattle.std.proofs.lemmas.{Bool.and_parts, Bool.cases_Bool, Bool.cases_lt, Bool.leb-true, Bool.ltb-true, List.take_more}
+use Rattle.std.proofs.lemmas.List.{Elements.All-append, Elements.All-cons, Elements.All-head, Elements.All-nil, Elements.All-push, Elements.All-tail, Kept.AllPairs-cons, Quantifiers.all_pairs_push}
+use Rattle.std.{proofs.lemmas.List.Sums.position_or_len_is, specs.List.position_or_len, specs.Prelude.nat_lt}
 use Rattle.dcd_base.specs.declared.capacity.Extent.{Extent}
-use Rattle.extent_list.specs.Apart.{IsBelow, StandApart}
-use Rattle.extent_list.specs.ExtentLists.{cut, has_range, holder_of, piece}
+use Rattle.extent_list.specs.{Apart.IsBelow, Apart.StandApart, ExtentLists.cut, ExtentLists.has_range, ExtentLists.holder_of, ExtentLists.piece}
 
 -- what an index past the end reads
 abbrev pub no_extent : Extent

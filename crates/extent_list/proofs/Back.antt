@@ -1,12 +1,8 @@
 -- Whole extents that leave from the back of a list.
 use Rattle.std.proofs.Common.{◌≡◌, ℕ, ◌+◌, ◌-◌, ◌<◌, false, inl, inr, List, [], ◌∷◌, ◌++◌, length, get_or, take, drop, ap, sym, ◌∙◌, arith, zero, suc}
-use Rattle.std.proofs.lemmas.Bool.{cases_Bool}
-use Rattle.std.proofs.lemmas.List.{drop_more, get_or-take, length-take-le, take_more}
+use Rattle.std.proofs.lemmas.{Bool.cases_Bool, List.drop_more, List.get_or-take, List.length-take-le, List.take_more}
 use Rattle.dcd_base.specs.declared.capacity.Extent.{Extent}
-use Rattle.extent_list.specs.Apart.{StandApart}
-use Rattle.extent_list.specs.ExtentLists.{cut, cut_all, has_range}
-use Rattle.extent_list.proofs.ApartLists.{within}
-use Rattle.extent_list.proofs.Front.{cut-whole}
+use Rattle.extent_list.{specs.Apart.StandApart, specs.ExtentLists.cut, specs.ExtentLists.cut_all, specs.ExtentLists.has_range, proofs.ApartLists.within, proofs.Front.cut-whole}
 
 -- the last one goes, where none before it has the range
 cut-last : (xs : List Extent) (x d : Extent) (start bytes : ℕ) → start ≡ x.start → bytes ≡ x.length → ((k : ℕ) → k < length xs → has_range start bytes (get_or xs k d) ≡ false)

@@ -1,15 +1,9 @@
 -- What a cut leaves: by the index of the extent that gives way, and what stays true of each extent.
-use Rattle.std.specs.List.{find, position_or_len}
+use Rattle.std.proofs.lemmas.{Bool.and_parts, Bool.leb-true, List.drop-set, List.length-take-le, List.take-append-drop, List.take-set, List.Folds.find_at, List.Quantifiers.position-Some}
+use Rattle.std.{proofs.lemmas.List.Sums.position_or_len_is, proofs.lemmas.Option.slice_get-get_or, specs.List.find, specs.List.position_or_len}
 use Rattle.std.proofs.Common.{◌⊎◌, IfSome, slice_get, subst, inl, inr, ◌≡◌, ℕ, ◌+◌, ◌-◌, ◌^◌, ◌<◌, ◌≤◌, true, false, List, [], ◌∷◌, ◌++◌, Some, length, get_or, set, take, drop, refl, sym, ap, ◌∙◌, suc, zero, arith, length-append, length-drop}
-use Rattle.std.proofs.lemmas.Bool.{and_parts, leb-true}
-use Rattle.std.proofs.lemmas.List.{drop-set, length-take-le, take-append-drop, take-set}
-use Rattle.std.proofs.lemmas.List.Folds.{find_at}
-use Rattle.std.proofs.lemmas.List.Quantifiers.{position-Some}
-use Rattle.std.proofs.lemmas.List.Sums.{position_or_len_is}
-use Rattle.std.proofs.lemmas.Option.{slice_get-get_or}
 use Rattle.dcd_base.specs.declared.capacity.Extent.{Extent}
-use Rattle.extent_list.specs.ExtentLists.{cut, has_range, holder_of, piece, without}
-use Rattle.extent_list.specs.Rooms.{IsCutInAddresses, IsInAddresses}
+use Rattle.extent_list.specs.{ExtentLists.cut, ExtentLists.has_range, ExtentLists.holder_of, ExtentLists.piece, ExtentLists.without, Rooms.IsCutInAddresses, Rooms.IsInAddresses}
 
 -- the holder's index, and where the range lies in that extent
 pub record Holds (start bytes : ℕ) (xs : List Extent) (i : ℕ) (x : Extent) : Type 0 where

@@ -1,16 +1,8 @@
 -- The tags of a list, each once, and a row over them.
 use Rattle.std.proofs.Common.{◌≡◌, ◌||◌, ℕ, ◌+◌, ◌<◌, Bool, true, false, inl, inr, if◌then◌else◌, List, [], ◌∷◌, ◌++◌, Option, Some, None, length, get_or, take, drop, map, fold, not, refl, sym, ap, ◌∙◌, append-nil, append_assoc}
-use Rattle.std.proofs.lemmas.Bool.{cases_Bool}
-use Rattle.std.proofs.lemmas.Cmp.{nat_list_eq_equiv}
-use Rattle.std.proofs.lemmas.List.{map-append, take_more, take-append-drop}
-use Rattle.std.proofs.lemmas.List.Folds.{list_any-append}
-use Rattle.std.proofs.lemmas.List.Sums.{fold_push}
-use Rattle.dcd_base.specs.declared.capacity.Extent.{Extent}
-use Rattle.dcd_base.specs.declared.capacity.Tag.{Tag}
-use Rattle.dcd_base.specs.Words.{◌or◌, distinct_tags, has_tag, same_tag, where_true}
-use Rattle.dcd_codes.specs.declared.rules.Rule.{Rule}
-use Rattle.dcd_codes.specs.Rules.{each_in}
-use Rattle.dcd_codes.proofs.RuleSteps.{first_by-append}
+use Rattle.std.proofs.lemmas.{Bool.cases_Bool, Cmp.nat_list_eq_equiv, List.map-append, List.take_more, List.take-append-drop, List.Folds.list_any-append, List.Sums.fold_push}
+use Rattle.dcd_base.specs.{declared.capacity.Extent.Extent, declared.capacity.Tag.Tag, Words.◌or◌, Words.distinct_tags, Words.has_tag, Words.same_tag, Words.where_true}
+use Rattle.dcd_codes.{specs.declared.rules.Rule.Rule, specs.Rules.each_in, proofs.RuleSteps.first_by-append}
 use Rattle.extent_list.specs.ExtentLists.{has_extent_of, tags_of}
 
 -- the tags seen, and one more unless it is among them

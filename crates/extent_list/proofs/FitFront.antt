@@ -1,27 +1,15 @@
 -- Extents that fit into owners which stand apart, each in the owner before that of the last one.
 use Rattle.std.proofs.Common.{◌≡◌, ℕ, ◌+◌, ◌-◌, ◌<◌, ◌≤◌, Bool, true, false, not, ◌&&◌, inl, inr, List, Option, None, length, get_or, take, refl, sym, ap, ◌∙◌, arith, suc, zero, le-ltb, subst}
+use Rattle.std.proofs.lemmas.{Bool.and_from, Bool.and_left, Bool.and_parts, Bool.and_right, Bool.cases_lt, Bool.leb-true, Bool.lt-ltb, Bool.ne_eqb, List.get_or_default, List.Folds.list_any_at}
 use Rattle.std.specs.Prelude.{◌==◌, nat_le, nat_lt}
-use Rattle.std.proofs.lemmas.Bool.{and_from, and_left, and_parts, and_right, cases_lt, leb-true, lt-ltb, ne_eqb}
-use Rattle.std.proofs.lemmas.List.{get_or_default}
-use Rattle.std.proofs.lemmas.List.Folds.{list_any_at}
-use Rattle.dcd_base.specs.declared.capacity.Extent.{Extent}
-use Rattle.dcd_base.specs.declared.ids.HostId.{HostId}
-use Rattle.dcd_codes.specs.declared.rules.Rule.{Rule}
-use Rattle.dcd_codes.specs.Rules.{◌breaks◌, each_in}
-use Rattle.dcd_codes.proofs.RuleSteps.{each_in_more}
-use Rattle.extent_list.specs.Apart.{StandApart}
+use Rattle.dcd_base.specs.declared.{capacity.Extent.Extent, ids.HostId.HostId}
+use Rattle.dcd_codes.{specs.declared.rules.Rule.Rule, specs.Rules.◌breaks◌, specs.Rules.each_in, proofs.RuleSteps.each_in_more}
+use Rattle.extent_list.{proofs.Apart.apart-by, proofs.Apart.only_owner, proofs.ApartLists.within, proofs.FirstOwner.no_extent, proofs.FirstOwner.owner_at, specs.Apart.StandApart}
 use Rattle.extent_list.specs.ExtentLists.{is_whole, lies_in, overlaps, owner_of}
-use Rattle.extent_list.proofs.ApartLists.{within}
 use Rattle.extent_list.specs.Fitting.{Fits, FrontFits, IsFit, IsOwnedBehind, IsPlaced, area_of, fits_area}
 use Rattle.extent_list.specs.Listing.{is_aligned, is_shareable_at, lies_in_region, misplaced}
-use Rattle.extent_list.proofs.Apart.{apart-by, only_owner}
-use Rattle.extent_list.proofs.FirstOwner.{no_extent, owner_at}
-use Rattle.media_map.proofs.PlaceLemmas.{has}
-use Rattle.media_map.proofs.RunLemmas.{region_at_is}
-use Rattle.media_map.specs.Places.{bounds_of, has_address, has_range, region_at}
-use Rattle.media_map.specs.region_config.specs.Configurations.{Configuration}
-use Rattle.media_map.specs.region_config.specs.Soundness.{IsSound}
-use Rattle.media_map.specs.region_config.specs.Granules.{base_of, region_spec}
+use Rattle.media_map.{proofs.PlaceLemmas.has, proofs.RunLemmas.region_at_is, specs.Places.bounds_of, specs.Places.has_address, specs.Places.has_range, specs.Places.region_at}
+use Rattle.media_map.specs.region_config.specs.{Configurations.Configuration, Granules.base_of, Granules.region_spec, Soundness.IsSound}
 
 -- two extents of which one lies in an extent above that of the other
 apart-in : (x y upper lower : Extent) → lies_in x upper ≡ true → lies_in y lower ≡ true → lower.start + lower.length ≤ upper.start → overlaps x y ≡ false

@@ -1,11 +1,7 @@
 -- Extents of a list that break no rule.
 use Rattle.std.proofs.Common.{◌≡◌, List, None, refl}
-use Rattle.dcd_base.specs.declared.capacity.Extent.{Extent}
-use Rattle.dcd_base.specs.declared.ids.HostId.{HostId}
-use Rattle.extent_list.specs.Fitting.{Fits}
-use Rattle.extent_list.specs.Listed.{listed_rule}
-use Rattle.extent_list.specs.declared.listed.Owned.{Owned}
-use Rattle.extent_list.specs.declared.listed.Within.{Within}
+use Rattle.dcd_base.specs.declared.{capacity.Extent.Extent, ids.HostId.HostId}
+use Rattle.extent_list.specs.{Fitting.Fits, Listed.listed_rule, declared.listed.Owned.Owned, declared.listed.Within.Within}
 use Rattle.media_map.specs.region_config.specs.Configurations.{Configuration}
 
 -- an extent that fits breaks no rule

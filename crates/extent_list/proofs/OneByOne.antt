@@ -1,8 +1,7 @@
 -- The rules of an extent beside its owner and those before it, one by one.
 use Rattle.std.proofs.Common.{◌≡◌, Bool, true, false, not, Option, Some, None, refl}
 use Rattle.dcd_base.specs.Words.{◌or◌}
-use Rattle.dcd_codes.specs.declared.rules.Rule.{Rule}
-use Rattle.dcd_codes.specs.Rules.{◌breaks◌}
+use Rattle.dcd_codes.specs.{declared.rules.Rule.Rule, Rules.◌breaks◌}
 
 module _ (inside : Bool) (missing : Rule) (overlap part : Option Rule) where
   abbrev pub row : Option Rule

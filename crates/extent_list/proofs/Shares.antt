@@ -1,22 +1,12 @@
 -- When no tag is listed in part: without shareable regions, and where both lists have the same tags.
 use Rattle.std.proofs.Common.{◌≡◌, ℕ, ◌+◌, ◌<◌, ◌≤◌, true, false, cond, inl, inr, List, [], ◌∷◌, ◌++◌, None, length, get_or, map, take, refl, sym, ap, ◌∙◌, arith}
-use Rattle.std.specs.List.{filter}
-use Rattle.std.proofs.lemmas.Bool.{cases_Bool, cases_lt, le-ltb}
-use Rattle.std.proofs.lemmas.Cmp.{nat_list_eq_equiv}
-use Rattle.std.proofs.lemmas.List.{get_or-map, get_or_past, length-map, take_all, take_more}
-use Rattle.std.proofs.lemmas.List.Elements.{filter_more}
-use Rattle.std.proofs.lemmas.List.Sums.{count_by_more_no, count_by_more_yes}
-use Rattle.dcd_base.specs.declared.capacity.Extent.{Extent}
-use Rattle.dcd_base.specs.declared.capacity.Tag.{Tag}
-use Rattle.dcd_base.specs.declared.ids.HostId.{HostId}
-use Rattle.dcd_base.specs.Words.{same_tag}
+use Rattle.std.proofs.lemmas.{Bool.cases_Bool, Bool.cases_lt, Bool.le-ltb, Cmp.nat_list_eq_equiv, List.get_or-map, List.get_or_past, List.length-map, List.take_all, List.take_more}
+use Rattle.std.{proofs.lemmas.List.Elements.filter_more, proofs.lemmas.List.Sums.count_by_more_no, proofs.lemmas.List.Sums.count_by_more_yes, specs.List.filter}
+use Rattle.dcd_base.specs.{declared.capacity.Extent.Extent, declared.capacity.Tag.Tag, declared.ids.HostId.HostId, Words.same_tag}
 use Rattle.dcd_codes.specs.Rules.{first_by}
-use Rattle.extent_list.specs.ExtentLists.{count_of_tag, marked, tags_of}
-use Rattle.extent_list.specs.Listing.{incomplete, is_shareable_at, shared_of, some_left, too_few_of}
+use Rattle.extent_list.specs.{ExtentLists.count_of_tag, ExtentLists.marked, ExtentLists.tags_of, Listing.incomplete, Listing.is_shareable_at, Listing.shared_of, Listing.some_left, Listing.too_few_of}
 use Rattle.extent_list.specs.Sharing.{HasNoShareable, HaveSameTags}
-use Rattle.media_map.specs.Places.{region_at}
-use Rattle.media_map.specs.region_config.specs.Configurations.{Configuration}
-use Rattle.media_map.specs.region_config.specs.Granules.{no_region, region_spec}
+use Rattle.media_map.specs.{Places.region_at, region_config.specs.Configurations.Configuration, region_config.specs.Granules.no_region, region_config.specs.Granules.region_spec}
 
 none-shared : (c : Configuration) (h : HostId) (owners list : List Extent) → HasNoShareable c → shared_of c h owners list ≡ []
 none-shared c h owners [] none = refl

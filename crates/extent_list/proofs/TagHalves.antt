@@ -1,11 +1,8 @@
 -- Two tags are one where both halves are, each read as a number.
 use Rattle.std.proofs.Common.{◌≡◌, ℕ, ◌+◌, ◌<◌, ◌≤◌, List, ◌++◌, length, get_or, take, drop, refl, sym, ap, ◌∙◌, nat_eq, inl, inr, arith, length-drop}
-use Rattle.std.specs.Int.{from_le_bytes, to_le_bytes, w64}
-use Rattle.std.specs.Cmp.Lexicographic.{same_text}
-use Rattle.std.proofs.lemmas.Bool.{cases_Bool, cases_lt, eqb-true, eq-eqb}
-use Rattle.std.proofs.lemmas.Cmp.{nat_list_eq_equiv}
-use Rattle.std.proofs.lemmas.List.{get_or-drop, get_or-take, get_or_past, length-take, take-append-drop, take_all}
-use Rattle.std.proofs.lemmas.Nat.{le_bytes_8}
+use Rattle.std.proofs.lemmas.{Bool.cases_Bool, Bool.cases_lt, Bool.eqb-true, Bool.eq-eqb, Cmp.nat_list_eq_equiv}
+use Rattle.std.proofs.lemmas.{List.get_or-drop, List.get_or-take, List.get_or_past, List.length-take, List.take-append-drop, List.take_all, Nat.le_bytes_8}
+use Rattle.std.specs.{Cmp.Lexicographic.same_text, Int.from_le_bytes, Int.to_le_bytes, Int.w64}
 use lib.Pointwise.{pointwise}
 
 -- sixteen bytes

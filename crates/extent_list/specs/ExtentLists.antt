@@ -1,9 +1,7 @@
 -- Lists of extents: what lies in them, what is cut out of them, and their tags.
 use Rattle.std.specs.Prelude.{sum_by, length, position, ℕ, ◌+◌, ◌-◌, Bool, ◌&&◌, not, ◌==◌, nat_le, nat_lt, List, [], ◌∷◌, ◌++◌, fold, if◌then◌else◌, map, count_by, filter, find, unwrap_or, Option}
 use Rattle.std.specs.List.{list_any}
-use Rattle.dcd_base.specs.declared.capacity.Extent.{Extent}
-use Rattle.dcd_base.specs.declared.capacity.Tag.{Tag}
-use Rattle.dcd_base.specs.Words.{same_tag, is_zero_tag, distinct_tags}
+use Rattle.dcd_base.specs.{declared.capacity.Extent.Extent, declared.capacity.Tag.Tag, Words.same_tag, Words.is_zero_tag, Words.distinct_tags}
 
 -- whether these bytes from start on lie in the extent
 abbrev pub has_range : ℕ → ℕ → Extent → Bool

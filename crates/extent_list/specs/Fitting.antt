@@ -1,13 +1,8 @@
 -- Extents at the front of a list that break no rule of an extent.
 use Rattle.std.specs.Prelude.{◌≡◌, ℕ, ◌<◌, Bool, ◌&&◌, not, ◌==◌, IsTrue, false, List, None, length, slice_index_or, take}
-use Rattle.dcd_base.specs.declared.capacity.Extent.{Extent}
-use Rattle.dcd_base.specs.declared.ids.HostId.{HostId}
-use Rattle.extent_list.specs.ExtentLists.{is_in, is_whole, lies_in}
-use Rattle.extent_list.specs.Listing.{misplaced, not_whole, overlapping}
-use Rattle.extent_list.specs.declared.placing.Area.{Area}
-use Rattle.media_map.specs.Places.{bounds_of, has_units, region_at}
-use Rattle.media_map.specs.region_config.specs.Configurations.{Configuration}
-use Rattle.media_map.specs.region_config.specs.Granules.{region_spec}
+use Rattle.dcd_base.specs.declared.{capacity.Extent.Extent, ids.HostId.HostId}
+use Rattle.extent_list.specs.{ExtentLists.is_in, ExtentLists.is_whole, ExtentLists.lies_in, Listing.misplaced, Listing.not_whole, Listing.overlapping, declared.placing.Area.Area}
+use Rattle.media_map.specs.{Places.bounds_of, Places.has_units, Places.region_at, region_config.specs.Configurations.Configuration, region_config.specs.Granules.region_spec}
 
 -- what a region says of the extents in it, and whether one has some bytes, which the region has, and is made of its blocks
 abbrev pub area_of : Configuration → HostId → ℕ → Area

@@ -1,16 +1,9 @@
 -- The rules of an extent of a list that has an owner. The configuration is the one with the present blocks.
 use Rattle.std.specs.Prelude.{ℕ, not, List, length, Option}
-use Rattle.dcd_base.specs.declared.capacity.Extent.{Extent}
-use Rattle.dcd_base.specs.declared.ids.HostId.{HostId}
-use Rattle.dcd_base.specs.Words.{◌or◌}
-use Rattle.dcd_codes.specs.declared.rules.Rule.{Rule}
-use Rattle.dcd_codes.specs.Rules.{◌breaks◌}
-use Rattle.extent_list.specs.ExtentLists.{is_in}
-use Rattle.extent_list.specs.Listing.{misplaced, not_whole, overlapping}
-use Rattle.extent_list.specs.declared.listed.Owned.{Owned}
-use Rattle.extent_list.specs.declared.listed.Within.{Within}
-use Rattle.media_map.specs.Places.{region_at}
-use Rattle.media_map.specs.region_config.specs.Configurations.{Configuration}
+use Rattle.dcd_base.specs.{declared.capacity.Extent.Extent, declared.ids.HostId.HostId, Words.◌or◌}
+use Rattle.dcd_codes.specs.{declared.rules.Rule.Rule, Rules.◌breaks◌}
+use Rattle.extent_list.specs.{ExtentLists.is_in, Listing.misplaced, Listing.not_whole, Listing.overlapping, declared.listed.Owned.Owned, declared.listed.Within.Within}
+use Rattle.media_map.specs.{Places.region_at, region_config.specs.Configurations.Configuration}
 
 -- the region in which an extent has to lie: the one that the command names, or else the one that has its first address
 abbrev pub region_for : Configuration → HostId → Within → Extent → ℕ

@@ -1,16 +1,9 @@
 -- The rules that every list of extents in a message has to keep. The configuration is the one with the present blocks.
 use Rattle.std.specs.Prelude.{ℕ, ◌+◌, ◌-◌, ◌%◌, Bool, ◌&&◌, not, ◌==◌, nat_le, nat_lt, List, length, map, filter, position, Option, option_map}
-use Rattle.dcd_base.specs.declared.capacity.Extent.{Extent}
-use Rattle.dcd_base.specs.declared.capacity.Tag.{Tag}
-use Rattle.dcd_base.specs.declared.ids.HostId.{HostId}
-use Rattle.dcd_base.specs.Limits.{extents_listed, extents_supported}
-use Rattle.dcd_base.specs.Words.{◌or◌}
-use Rattle.dcd_codes.specs.declared.rules.Rule.{Rule}
-use Rattle.dcd_codes.specs.Rules.{◌breaks◌, each_in}
+use Rattle.dcd_base.specs.{declared.capacity.Extent.Extent, declared.capacity.Tag.Tag, declared.ids.HostId.HostId, Limits.extents_listed, Limits.extents_supported, Words.◌or◌}
+use Rattle.dcd_codes.specs.{declared.rules.Rule.Rule, Rules.◌breaks◌, Rules.each_in}
 use Rattle.extent_list.specs.ExtentLists.{count_of_tag, is_whole, marked, overlaps, tags_of}
-use Rattle.media_map.specs.Places.{region_at}
-use Rattle.media_map.specs.region_config.specs.Configurations.{Configuration}
-use Rattle.media_map.specs.region_config.specs.Granules.{base_of, region_spec}
+use Rattle.media_map.specs.{Places.region_at, region_config.specs.Configurations.Configuration, region_config.specs.Granules.base_of, region_config.specs.Granules.region_spec}
 
 -- whether the extent lies within that region
 abbrev pub lies_in_region : Configuration → HostId → ℕ → Extent → Bool

@@ -1,10 +1,8 @@
 -- When no tag can be listed in part: without shareable regions, and where all extents are listed.
 use Rattle.std.specs.Prelude.{◌≡◌, ℕ, false, List}
-use Rattle.dcd_base.specs.declared.capacity.Extent.{Extent}
-use Rattle.dcd_base.specs.declared.capacity.Tag.{Tag}
+use Rattle.dcd_base.specs.declared.capacity.{Extent.Extent, Tag.Tag}
 use Rattle.extent_list.specs.ExtentLists.{count_of_tag}
-use Rattle.media_map.specs.region_config.specs.Configurations.{Configuration}
-use Rattle.media_map.specs.region_config.specs.Granules.{region_spec}
+use Rattle.media_map.specs.region_config.specs.{Configurations.Configuration, Granules.region_spec}
 
 -- No region of the device is shareable.
 abbrev pub HasNoShareable : Configuration → Type 0

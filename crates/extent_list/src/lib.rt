@@ -22,7 +22,7 @@ mod tag_rules;
 mod tags;
 
 pub use dcd_codes;
-pub use fitting::{Before, marked_lists, append_marked, sharing};
+pub use fitting::{Before, append_marked, marked_lists, sharing};
 pub use limits::{too_many_extents, too_many_listed};
 pub use list::{ExtentList, TooMany};
 pub use listed::{Owned, Within, first_unfit};

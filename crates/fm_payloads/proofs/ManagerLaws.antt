@@ -1,27 +1,14 @@
 -- A payload is read as a request exactly where it reads so, and as that one.
 use Rattle.std.proofs.Common.{◌≡◌, ℕ, ◌+◌, ◌-◌, ◌*◌, ◌/◌, true, false, cond, eqb, List, [], ◌∷◌, length, get_or, map, flat_map, take, drop, Result, Ok, Err, refl, sym, ap, subst, ◌∙◌, arith}
-use Rattle.std.specs.Prelude.{IfOk, OnOk}
-use Rattle.std.specs.List.{AllByRecursion}
-use Rattle.std.specs.Int.{w16, w32, w64}
-use Rattle.std.proofs.lemmas.Bool.{eqb-true}
-use Rattle.std.proofs.lemmas.List.{length-map}
-use Rattle.dcd_base.specs.declared.capacity.Extent.{Extent}
-use Rattle.dcd_base.specs.declared.capacity.Tag.{Tag}
-use Rattle.dcd_base.specs.Layouts.{FitsField, Number, Raw, Reads, number_at, pieces, spelling}
-use Rattle.dcd_base.specs.Payloads.{has_flag, tag_at, Gives}
-use Rattle.dcd_base.specs.EventCommands.{clear_length, handles_in}
-use Rattle.dcd_base.specs.Extents.{whole_extent, extent_fields}
-use Rattle.dcd_base.proofs.Agreement.{Agrees, Agrees-spelled}
-use Rattle.dcd_base.proofs.EventCommands.{clear_agrees, clear_is}
-use Rattle.dcd_base.proofs.Fields.{IsBytes}
-use Rattle.dcd_base.proofs.PayloadLengths.{counted_at, counted_is, sized_at, sized_is}
-use Rattle.dcd_base.proofs.Pieces.{length-pieces}
-use Rattle.dcd_base.proofs.WholeExtents.{extents_agree, extents_are}
-use Rattle.dcd_base.proofs.Widths.{wide_16, wide_32, wide_64}
+use Rattle.std.{specs.Prelude.IfOk, specs.Prelude.OnOk, specs.List.AllByRecursion, specs.Int.w16, specs.Int.w32, specs.Int.w64, proofs.lemmas.Bool.eqb-true, proofs.lemmas.List.length-map}
+use Rattle.dcd_base.proofs.{Agreement.Agrees, Agreement.Agrees-spelled, EventCommands.clear_agrees, EventCommands.clear_is, Fields.IsBytes}
+use Rattle.dcd_base.proofs.{PayloadLengths.counted_at, PayloadLengths.counted_is, PayloadLengths.sized_at, PayloadLengths.sized_is, Pieces.length-pieces}
+use Rattle.dcd_base.proofs.{WholeExtents.extents_agree, WholeExtents.extents_are, Widths.wide_16, Widths.wide_32, Widths.wide_64}
+use Rattle.dcd_base.specs.{EventCommands.clear_length, EventCommands.handles_in, Extents.whole_extent, Extents.extent_fields}
+use Rattle.dcd_base.specs.{Layouts.FitsField, Layouts.Number, Layouts.Raw, Layouts.Reads, Layouts.number_at, Layouts.pieces, Layouts.spelling, Payloads.has_flag, Payloads.tag_at, Payloads.Gives}
+use Rattle.dcd_base.specs.declared.{capacity.Extent.Extent, capacity.Tag.Tag, faults.PayloadFault.PayloadFault}
 use Rattle.dcd_base.proofs.Places.{FieldsAt, Reads-from, all_from, byte_found, byte_only, end_found, end_only, flag_found, flag_only, number_found, number_only, raw_found, raw_only, reserved_found, reserved_only}
-use Rattle.dcd_base.specs.declared.faults.PayloadFault.{PayloadFault}
-use Rattle.fm_payloads.specs.declared.placing.Placed.{Placed}
-use Rattle.fm_payloads.specs.declared.requests.FmRequest.{FmRequest}
+use Rattle.fm_payloads.specs.declared.{placing.Placed.Placed, requests.FmRequest.FmRequest}
 use Rattle.fm_payloads.specs.ManagerPayloads.{IsManagerRequest, manager_clear_asked, manager_events_asked, info_asked, lists_asked, made_of, manager_fields, manager_opcode, manager_request, placed_fields, placed_in, placed_length, regions_asked, setting_asked, tag_in, tags_asked, to_add, to_remove, whole_extents}
 
 -- ---- what is read is asked

@@ -1,14 +1,8 @@
 -- What is appended piece by piece is the one spelling.
 use Rattle.std.proofs.Common.{◌≡◌, ℕ, List, [], ◌∷◌, ◌++◌, length, map, flat_map, refl, sym, ap, ◌∙◌}
-use Rattle.std.specs.Int.{w64}
-use Rattle.std.proofs.lemmas.List.Concat.{flat_map-append}
-use Rattle.dcd_base.specs.declared.capacity.Extent.{Extent}
-use Rattle.dcd_base.specs.declared.capacity.Tag.{Tag}
-use Rattle.dcd_base.specs.Layouts.{Number, spell, spelling, u64_bytes}
-use Rattle.dcd_base.proofs.Pieces.{spelling_each}
-use Rattle.dcd_base.proofs.WholeExtents.{extents_spelled}
-use Rattle.dcd_base.specs.Extents.{extent_bytes, extent_fields}
-use Rattle.dcd_base.specs.declared.tags.TagView.{TagView}
+use Rattle.std.{specs.Int.w64, proofs.lemmas.List.Concat.flat_map-append}
+use Rattle.dcd_base.{proofs.Pieces.spelling_each, proofs.WholeExtents.extents_spelled, specs.Extents.extent_bytes, specs.Extents.extent_fields}
+use Rattle.dcd_base.specs.{Layouts.Number, Layouts.spell, Layouts.spelling, Layouts.u64_bytes, declared.capacity.Extent.Extent, declared.capacity.Tag.Tag, declared.tags.TagView.TagView}
 use Rattle.fm_payloads.specs.ManagerPayloads.{info_head, info_head_fields, info_payload, placed_fields, placed_head, placed_head_fields, tag_bytes, tag_fields, tags_head, tags_head_fields, tags_payload}
 
 pub placed_spelled : (host choice region bytes : ℕ) (tag : Tag) (xs : List Extent) → placed_head host choice region bytes tag (length xs) ++ flat_map extent_bytes xs ≡ spelling (placed_fields host choice region bytes tag xs)

@@ -1,18 +1,11 @@
 -- What the manager asks, and the bytes of the replies.
 use Rattle.dcd_base.specs.Layouts.{spelling, Field, Reads, flag, number_at, pieces, Number, Raw, Reserved}
+use Rattle.dcd_base.specs.{EventCommands.log_fields, EventCommands.clear_fields, EventCommands.clear_length, EventCommands.handles_in, Extents.whole_extent, Extents.extent_fields}
+use Rattle.dcd_base.specs.{Payloads.counted, Payloads.has_flag, Payloads.sized, Payloads.tag_at, declared.capacity.Extent.Extent, declared.capacity.Tag.Tag, declared.faults.PayloadFault.PayloadFault}
 use Rattle.dcd_base.specs.declared.tags.TagView.{TagView}
 use Rattle.std.specs.Prelude.{◌≡◌, ◌≤◌, ℕ, ◌-◌, ◌/◌, ◌==◌, List, [], ◌∷◌, ◌++◌, length, map, flat_map, drop, slice_index, if◌then◌else◌}
-use Rattle.std.specs.Int.{w8, w16, w32, w64}
-use Rattle.std.specs.declared.result.Result.{Result}
-use Rattle.std.specs.declared.result.Result.TheVariants.{Ok, Err}
-use Rattle.dcd_base.specs.declared.capacity.Tag.{Tag}
-use Rattle.dcd_base.specs.declared.capacity.Extent.{Extent}
-use Rattle.dcd_base.specs.declared.faults.PayloadFault.{PayloadFault}
-use Rattle.fm_payloads.specs.declared.placing.Placed.{Placed}
-use Rattle.fm_payloads.specs.declared.requests.FmRequest.{FmRequest}
-use Rattle.dcd_base.specs.Payloads.{counted, has_flag, sized, tag_at}
-use Rattle.dcd_base.specs.EventCommands.{log_fields, clear_fields, clear_length, handles_in}
-use Rattle.dcd_base.specs.Extents.{whole_extent, extent_fields}
+use Rattle.std.specs.{Int.w8, Int.w16, Int.w32, Int.w64, declared.result.Result.Result, declared.result.Result.TheVariants.Ok, declared.result.Result.TheVariants.Err}
+use Rattle.fm_payloads.specs.declared.{placing.Placed.Placed, requests.FmRequest.FmRequest}
 
 -- 5604h and 5605h: a host, a policy or flags, a region, a length in bytes, a tag, a count of extents, extents
 abbrev pub placed_fields : ℕ → ℕ → ℕ → ℕ → Tag → List Extent → List Field

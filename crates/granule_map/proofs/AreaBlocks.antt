@@ -1,13 +1,9 @@
 -- The blocks of an area by its granules.
 use Rattle.std.proofs.Common.{◌≡◌, ℕ, ◌+◌, ◌-◌, ◌*◌, ◌<◌, ◌≤◌, false, List, arith, inl, inr}
 use Rattle.dcd_base.specs.declared.media.Run.{Run}
-use Rattle.std.proofs.lemmas.Bool.{cases_lt, not-false, not-true}
-use Rattle.std.proofs.Math.Nat.{div-mul-le_self, le-div_iff_mul-le, mod-eq-sub-div-mul, mul-le-mul_right}
-use Rattle.granule_map.specs.Blocks.{IsArea, block_count, is_block_free}
-use Rattle.granule_map.specs.StateLists.{is_free_at}
-use Rattle.granule_map.specs.Stretches.{AreWhole, IsNext, IsStretch, fails}
-use Rattle.granule_map.specs.declared.states.GranuleState.{GranuleState}
-use Rattle.granule_map.proofs.Stretches.{all_pass, some_fails}
+use Rattle.std.proofs.{lemmas.Bool.cases_lt, lemmas.Bool.not-false, lemmas.Bool.not-true, Math.Nat.div-mul-le_self, Math.Nat.le-div_iff_mul-le, Math.Nat.mod-eq-sub-div-mul, Math.Nat.mul-le-mul_right}
+use Rattle.granule_map.{proofs.Stretches.all_pass, proofs.Stretches.some_fails, specs.Blocks.IsArea, specs.Blocks.block_count, specs.Blocks.is_block_free, specs.StateLists.is_free_at}
+use Rattle.granule_map.specs.{Stretches.AreWhole, Stretches.IsNext, Stretches.IsStretch, Stretches.fails, declared.states.GranuleState.GranuleState}
 
 -- blocks below the limit end in the area
 pub block_end : (states : List GranuleState) (area : Run) (per_block k : ℕ) → IsArea states area per_block → k ≤ block_count area per_block → k * per_block ≤ area.count

@@ -1,12 +1,9 @@
 -- What a change of a run leaves at each granule.
 use Rattle.std.proofs.Common.{◌≡◌, ℕ, ◌+◌, ◌-◌, ◌<◌, ◌≤◌, cond, List, ◌++◌, length, get_or, take, drop, replicate, refl, ap, ◌∙◌, leb, inl, inr, arith, length-append}
-use Rattle.dcd_base.specs.Words.{has_granule}
-use Rattle.dcd_base.specs.declared.media.Run.{Run}
+use Rattle.dcd_base.specs.{Words.has_granule, declared.media.Run.Run}
 use Rattle.std.proofs.lemmas.Bool.{and_right, cases_lt, le-leb, le-ltb, lt-leb, lt-ltb}
 use Rattle.std.proofs.lemmas.List.{get_or-append_right, get_or-drop, get_or-replicate, get_or-take, get_or_append_left, length-replicate, length-take-le}
-use Rattle.granule_map.specs.StateLists.{with_run}
-use Rattle.granule_map.specs.Told.{with_item}
-use Rattle.granule_map.specs.declared.states.GranuleState.{GranuleState}
+use Rattle.granule_map.specs.{StateLists.with_run, Told.with_item, declared.states.GranuleState.GranuleState}
 
 module _ {X : Type 0} (xs : List X) (run : Run) (x : X) (within : run.first + run.count ≤ length xs) where
   front : length (take run.first xs) ≡ run.first

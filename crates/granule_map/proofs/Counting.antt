@@ -1,13 +1,10 @@
 -- What a new state of a run makes of how many granules are of a kind.
 use Rattle.std.proofs.Common.{◌≡◌, ℕ, ◌+◌, ◌*◌, ◌<◌, ◌≤◌, ◌^◌, Bool, true, false, cond, List, ◌++◌, length, take, drop, replicate, refl, ap, ◌∙◌, arith}
+use Rattle.std.proofs.lemmas.List.{drop-drop, Folds.sum_by-replicate, Sums.count_by-le-length, Sums.sum_by-append, Sums.sum_by-take-drop}
 use Rattle.std.specs.Prelude.{count_by}
-use Rattle.std.proofs.lemmas.List.{drop-drop}
-use Rattle.std.proofs.lemmas.List.Folds.{sum_by-replicate}
-use Rattle.std.proofs.lemmas.List.Sums.{count_by-le-length, sum_by-append, sum_by-take-drop}
 use Rattle.dcd_base.specs.declared.media.Run.{Run}
 use Rattle.granule_map.specs.StateLists.{count_of, is_dirty_state, is_free_state, part_of, same_state, with_run}
-use Rattle.granule_map.specs.declared.states.GranuleState.{GranuleState}
-use Rattle.granule_map.specs.declared.states.GranuleState.TheVariants.{Free, Reserved, Held, Tagged, Dirty}
+use Rattle.granule_map.specs.declared.states.GranuleState.{GranuleState, TheVariants.Free, TheVariants.Reserved, TheVariants.Held, TheVariants.Tagged, TheVariants.Dirty}
 
 -- what the count of a kind becomes where so many granules were of it, and so many are of it now
 pub record Recounts (k : GranuleState) (states : List GranuleState) (run : Run) (now : GranuleState) (was is : ℕ) : Type 0 where

@@ -1,15 +1,9 @@
 -- Numbers that pass a test, taken from the lowest on and joined to runs.
 use Rattle.std.proofs.Common.{◌≡◌, ◌⊎◌, ℕ, zero, suc, ◌+◌, ◌-◌, ◌<◌, ◌≤◌, min, Bool, true, false, List, [], ◌∷◌, ◌++◌, length, take, Some, None, refl, ap, sym, subst, ◌∙◌, eqb, arith, inl, inr}
-use Rattle.std.specs.Prelude.{◌&&◌}
-use Rattle.std.specs.List.{filter, find, prefix_len, range_with_len}
-use Rattle.std.proofs.lemmas.Bool.{and_right, cases_Bool, cases_lt, eq-eqb, ne_eqb}
-use Rattle.std.proofs.lemmas.List.Elements.{filter-append}
-use Rattle.std.proofs.lemmas.List.Sums.{prefix_len-le-length}
-use Rattle.std.proofs.lemmas.Option.{none-some, same_Some}
-use Rattle.std.proofs.lemmas.List.FromFn.{length-range_with_len}
-use Rattle.std.proofs.Math.Seq.{take-append-add}
-use Rattle.granule_map.specs.Choices.{joined, joined_onto, lowest_from}
-use Rattle.granule_map.proofs.Ranges.{range_more}
+use Rattle.std.proofs.{Math.Seq.take-append-add, lemmas.Bool.and_right, lemmas.Bool.cases_Bool, lemmas.Bool.cases_lt, lemmas.Bool.eq-eqb, lemmas.Bool.ne_eqb, lemmas.List.Elements.filter-append}
+use Rattle.std.proofs.lemmas.{List.FromFn.length-range_with_len, List.Sums.prefix_len-le-length, Option.none-some, Option.same_Some}
+use Rattle.std.specs.{List.filter, List.find, List.prefix_len, List.range_with_len, Prelude.◌&&◌}
+use Rattle.granule_map.{specs.Choices.joined, specs.Choices.joined_onto, specs.Choices.lowest_from, proofs.Ranges.range_more}
 
 -- numbers of which the first does not go on from this one
 abbrev pub IsBehind : (ℕ → ℕ → Bool) → ℕ → List ℕ → Type 0

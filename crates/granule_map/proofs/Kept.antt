@@ -1,21 +1,13 @@
 -- The states of granules by what is kept of them, and what a change of a run makes of both.
 use Rattle.std.proofs.Common.{◌≡◌, ℕ, ◌+◌, ◌^◌, ◌<◌, ◌≤◌, Bool, true, false, cond, List, [], ◌∷◌, ◌++◌, Some, length, get_or, set, map, take, drop, replicate, refl, ap, sym, subst, ◌∙◌, arith, length-append, length-drop}
-use Rattle.std.specs.Prelude.{count_by, slice_get}
-use Rattle.std.proofs.Math.Nat.{add-zero, zero-add}
-use Rattle.std.proofs.lemmas.List.{ext_get_or, get_or-replicate, length-replicate, length-take-le, take_more}
-use Rattle.std.proofs.lemmas.List.FromFn.{get_or-map-range_with_len, length-map-range_with_len}
-use Rattle.std.proofs.lemmas.List.Sums.{sum_by-append, sum_by-cons}
-use Rattle.std.proofs.lemmas.Option.{get_or_from_slice_get, slice_get-get_or, slice_get_read}
-use Rattle.dcd_base.specs.Words.{has_granule, zero_tag}
-use Rattle.dcd_base.specs.declared.capacity.Tag.{Tag}
-use Rattle.dcd_base.specs.declared.media.Run.{Run}
-use Rattle.granule_map.specs.StateLists.{host_of, mark_of, told, with_run}
-use Rattle.granule_map.specs.Told.{AreKept, states_of, tags_with, with_item}
-use Rattle.granule_map.specs.declared.states.GranuleState.{GranuleState}
-use Rattle.granule_map.specs.declared.states.GranuleState.TheVariants.{Free, Reserved, Held, Tagged, Dirty}
-use Rattle.granule_map.proofs.Changes.{item_after_run, state_after_run}
+use Rattle.std.proofs.{Math.Nat.add-zero, Math.Nat.zero-add, lemmas.List.ext_get_or, lemmas.List.get_or-replicate, lemmas.List.length-replicate, lemmas.List.length-take-le, lemmas.List.take_more}
+use Rattle.std.proofs.lemmas.List.{FromFn.get_or-map-range_with_len, FromFn.length-map-range_with_len, Sums.sum_by-append, Sums.sum_by-cons}
+use Rattle.std.{proofs.lemmas.Option.get_or_from_slice_get, proofs.lemmas.Option.slice_get-get_or, proofs.lemmas.Option.slice_get_read, specs.Prelude.count_by, specs.Prelude.slice_get}
+use Rattle.dcd_base.specs.{Words.has_granule, Words.zero_tag, declared.capacity.Tag.Tag, declared.media.Run.Run}
+use Rattle.granule_map.proofs.{Changes.item_after_run, Changes.state_after_run, Marked.marks_of_one, Marked.still_marked}
 use Rattle.granule_map.proofs.PartsReplaced.{replaced, replaced_more, replaced_none}
-use Rattle.granule_map.proofs.Marked.{marks_of_one, still_marked}
+use Rattle.granule_map.specs.{StateLists.host_of, StateLists.mark_of, StateLists.told, StateLists.with_run, Told.AreKept, Told.states_of, Told.tags_with, Told.with_item}
+use Rattle.granule_map.specs.declared.states.GranuleState.{GranuleState, TheVariants.Free, TheVariants.Reserved, TheVariants.Held, TheVariants.Tagged, TheVariants.Dirty}
 
 -- what is told of one granule
 abbrev pub told_of : List ℕ → List ℕ → List Tag → ℕ → GranuleState

@@ -1,14 +1,11 @@
 -- What the marks of granules say of their states.
 use Rattle.std.proofs.Common.{cond, [], ◌∷◌, ◌≡◌, ℕ, zero, suc, ◌∷◌, ◌+◌, ◌-◌, ◌<◌, ◌≤◌, Bool, false, not, List, ◌++◌, length, length-drop, map, get_or, take, drop, replicate, refl, ap, sym, subst, ◌∙◌, arith}
 use Rattle.dcd_base.specs.declared.media.Run.{Run}
-use Rattle.std.proofs.lemmas.Bool.{false_from_ne_true}
-use Rattle.std.proofs.lemmas.List.{drop-map, get_or-drop, get_or-map, get_or-take, length-take-le, map-append, take-map}
-use Rattle.std.proofs.lemmas.List.Sums.{sum_by-cons}
+use Rattle.std.proofs.lemmas.{Bool.false_from_ne_true, List.drop-map, List.get_or-drop, List.get_or-map, List.get_or-take, List.length-take-le, List.map-append, List.take-map, List.Sums.sum_by-cons}
 use Rattle.std.specs.Prelude.{count_by}
 use Rattle.memchr.specs.Find.{Nowhere, Passes, is_byte}
 use Rattle.granule_map.specs.StateLists.{AreMarked, is_dirty_at, is_dirty_state, is_free_at, is_free_state, mark_of, part_of, with_run}
-use Rattle.granule_map.specs.Stretches.{IsNext, fails}
-use Rattle.granule_map.specs.declared.states.GranuleState.{GranuleState}
+use Rattle.granule_map.specs.{Stretches.IsNext, Stretches.fails, declared.states.GranuleState.GranuleState}
 use Rattle.granule_map.specs.declared.states.GranuleState.TheVariants.{Free, Reserved, Held, Tagged, Dirty}
 
 pub part_length : (xs : List ℕ) (from end : ℕ) → from ≤ end → end ≤ length xs → length (take (end - from) (drop from xs)) ≡ end - from

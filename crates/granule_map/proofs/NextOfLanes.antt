@@ -1,11 +1,8 @@
 -- From the mask of one load to the next place that passes.
 use Rattle.std.proofs.Common.{◌≡◌, ℕ, ◌+◌, ◌-◌, ◌^◌, ◌<◌, ◌≤◌, Bool, true, false, cond, List, length, get_or, map, drop, refl, ap, subst, sym, ◌∙◌, arith, inl, inr}
+use Rattle.std.proofs.{Math.Nat.zero-add, lemmas.Bool.cases_lt, lemmas.List.get_or-drop, lemmas.List.get_or-map, lemmas.List.length-map}
+use Rattle.std.proofs.lemmas.{Nat.Bits.bit_at-trailing_zeros, Nat.Bits.bit_at-zero, Nat.Bits.bit_at_above, Simd.bit_mask_l, Simd.get_or-chunk, Simd.length-chunk, Simd.mask_l-lt}
 use Rattle.std.specs.Int.{bit_at, trailing_zeros, w64}
-use Rattle.std.proofs.Math.Nat.{zero-add}
-use Rattle.std.proofs.lemmas.Bool.{cases_lt}
-use Rattle.std.proofs.lemmas.List.{get_or-drop, get_or-map, length-map}
-use Rattle.std.proofs.lemmas.Nat.Bits.{bit_at-trailing_zeros, bit_at-zero, bit_at_above}
-use Rattle.std.proofs.lemmas.Simd.{bit_mask_l, get_or-chunk, length-chunk, mask_l-lt}
 use lib.Lanes.{chunk, mask_l}
 use Rattle.granule_map.specs.Stretches.{IsNext}
 

@@ -3,8 +3,7 @@ use Rattle.std.proofs.Common.{◌≡◌, ℕ, ◌+◌, ◌<◌, ◌≤◌, false
 use Rattle.std.proofs.lemmas.Bool.{and_right, cases_lt, le-leb, le-ltb, lt-leb, lt-ltb, ne_eqb}
 use Rattle.dcd_base.specs.declared.media.Run.{Run}
 use Rattle.memchr.specs.Find.{is_byte}
-use Rattle.granule_map.specs.Told.{NoneBelow, with_item}
-use Rattle.granule_map.proofs.Changes.{item_after_run}
+use Rattle.granule_map.{specs.Told.NoneBelow, specs.Told.with_item, proofs.Changes.item_after_run}
 
 module _ (marks : List ℕ) (run : Run) (m lowest new : ℕ) (within : run.first + run.count ≤ length marks) (none : NoneBelow marks lowest)
     (free : m ≡ 0 → new ≤ run.first) (covered : lowest < new → run.first ≤ lowest) (ends : lowest < new → new ≤ run.first + run.count) where

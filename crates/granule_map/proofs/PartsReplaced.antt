@@ -1,11 +1,8 @@
 -- A run of a list whose items are replaced one after another, and what they were.
 use Rattle.std.proofs.Common.{◌≡◌, ℕ, zero, suc, ◌+◌, ◌-◌, ◌<◌, ◌≤◌, Bool, true, false, cond, List, [], ◌∷◌, ◌++◌, length, get_or, set, take, drop, replicate, refl, ap, sym, ◌∙◌, arith, append-nil, append_assoc, length-append, length-drop}
-use Rattle.std.specs.Prelude.{count_by}
-use Rattle.std.proofs.Math.Seq.{set-append_seam, take-append_seam}
-use Rattle.std.proofs.Math.Nat.{add-zero, zero-add}
+use Rattle.std.proofs.Math.{Nat.add-zero, Nat.zero-add, Seq.set-append_seam, Seq.take-append_seam}
 use Rattle.std.proofs.lemmas.List.{drop_more, get_or-append_right, get_or-drop, length-replicate, length-take-le, replicate-append-replicate, take-append-drop, take_more}
-use Rattle.std.proofs.lemmas.Slice.{drop-append-drop}
-use Rattle.std.proofs.lemmas.List.Sums.{sum_by-append, sum_by-cons}
+use Rattle.std.{proofs.lemmas.List.Sums.sum_by-append, proofs.lemmas.List.Sums.sum_by-cons, proofs.lemmas.Slice.drop-append-drop, specs.Prelude.count_by}
 
 -- the list with so many items from the first on replaced
 abbrev pub replaced : {X : Type 0} → ℕ → ℕ → X → List X → List X

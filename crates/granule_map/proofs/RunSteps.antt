@@ -1,9 +1,7 @@
 -- Runs of numbers that pass a test, from the highest number down.
 use Rattle.std.proofs.Common.{◌≡◌, ℕ, ◌+◌, ◌-◌, ◌<◌, Bool, true, false, cond, List, [], ◌∷◌, Option, Some, None, max, map, refl, ap, ◌∙◌, leb, arith, inl, inr}
-use Rattle.std.specs.List.{fold, find, prefix_len, range_with_len}
-use Rattle.std.proofs.lemmas.Bool.{cases_Bool, leb-false, lt-leb}
-use Rattle.granule_map.specs.Choices.{longest_run, lowest_run, run_from}
-use Rattle.granule_map.proofs.Ranges.{range_done, range_more}
+use Rattle.std.{specs.List.fold, specs.List.find, specs.List.prefix_len, specs.List.range_with_len, proofs.lemmas.Bool.cases_Bool, proofs.lemmas.Bool.leb-false, proofs.lemmas.Bool.lt-leb}
+use Rattle.granule_map.{specs.Choices.longest_run, specs.Choices.lowest_run, specs.Choices.run_from, proofs.Ranges.range_done, proofs.Ranges.range_more}
 
 -- the longest run from a number on, and the lowest number from it on at which a run of this length begins
 abbrev pub longest_from : (ℕ → Bool) → ℕ → ℕ → ℕ

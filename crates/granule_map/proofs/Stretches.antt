@@ -1,15 +1,10 @@
 -- Numbers that pass a test, from one on up to a limit, passed one stretch after another.
 use Rattle.std.proofs.Common.{◌≡◌, ℕ, zero, suc, ◌+◌, ◌-◌, ◌<◌, ◌≤◌, max, Bool, true, false, cond, List, ◌++◌, length, length-append, Some, None, refl, ap, sym, subst, ◌∙◌, eqb, leb, arith, inl, inr}
-use Rattle.std.specs.Prelude.{◌&&◌}
-use Rattle.std.specs.List.{filter, find, list_all, prefix_len, range_with_len}
-use Rattle.std.proofs.lemmas.Bool.{and_right, cases_lt, eq-eqb, le-leb, lt-leb, ne_eqb, not-false, not-true}
-use Rattle.std.proofs.lemmas.List.Elements.{filter-append}
-use Rattle.std.proofs.lemmas.List.FromFn.{length-range_with_len}
-use Rattle.granule_map.specs.Choices.{run_from}
-use Rattle.granule_map.specs.Stretches.{IsNext, IsStretch, fails}
-use Rattle.granule_map.proofs.Joining.{filter_each, filter_none, prefix_ends, range_split}
-use Rattle.granule_map.proofs.Ranges.{find_range_done, find_range_more}
+use Rattle.std.proofs.lemmas.{Bool.and_right, Bool.cases_lt, Bool.eq-eqb, Bool.le-leb, Bool.lt-leb, Bool.ne_eqb, Bool.not-false, Bool.not-true, List.Elements.filter-append}
+use Rattle.std.{proofs.lemmas.List.FromFn.length-range_with_len, specs.List.filter, specs.List.find, specs.List.list_all, specs.List.prefix_len, specs.List.range_with_len, specs.Prelude.◌&&◌}
+use Rattle.granule_map.proofs.{Joining.filter_each, Joining.filter_none, Joining.prefix_ends, Joining.range_split, Ranges.find_range_done, Ranges.find_range_more}
 use Rattle.granule_map.proofs.RunSteps.{longest_done, longest_from, longest_more, lowest_done, lowest_more, lowest_start, run_more}
+use Rattle.granule_map.specs.{Choices.run_from, Stretches.IsNext, Stretches.IsStretch, Stretches.fails}
 
 -- a test of all numbers of a range, where each passes and where one does not
 pub all_pass : (p : ℕ → Bool) (a d : ℕ) → ((k : ℕ) → a ≤ k → k < a + d → p k ≡ true) → list_all p (range_with_len a d) ≡ true

@@ -2,13 +2,9 @@
 use Rattle.std.proofs.Common.{◌≡◌, ℕ, ◌+◌, ◌-◌, ◌≤◌, Bool, true, cond, List, ◌++◌, length, get_or, take, drop, replicate, refl, ap, ◌∙◌, leb, inl, inr, arith, length-append}
 use Rattle.std.proofs.lemmas.Bool.{and_right, cases_Bool, cases_lt, le-leb, le-ltb, lt-leb, lt-ltb}
 use Rattle.std.proofs.lemmas.List.{get_or-append_right, get_or-drop, get_or-replicate, get_or-take, get_or_append_left, length-replicate, length-take-le}
-use Rattle.dcd_base.specs.Words.{has_granule}
-use Rattle.dcd_base.specs.declared.media.Run.{Run}
-use Rattle.granule_map.proofs.Changes.{state_after_run}
-use Rattle.granule_map.specs.StateLists.{with_run}
-use Rattle.granule_map.specs.declared.states.GranuleState.{GranuleState}
-use Rattle.granule_map.specs.Parts.{marked_unclean, with_part}
-use Rattle.granule_map.specs.Tables.{Cell, CellTable, IsChanged, cell_at, given}
+use Rattle.dcd_base.specs.{Words.has_granule, declared.media.Run.Run}
+use Rattle.granule_map.{proofs.Changes.state_after_run, specs.Parts.marked_unclean, specs.Parts.with_part, specs.StateLists.with_run}
+use Rattle.granule_map.specs.{Tables.Cell, Tables.CellTable, Tables.IsChanged, Tables.cell_at, Tables.given, declared.states.GranuleState.GranuleState}
 
 -- the item of any place once those of a run are another one
 module _ {X : Type 0} (xs : List X) (run : Run) (x : X) (within : run.first + run.count ≤ length xs) where

@@ -2,9 +2,7 @@
 use Rattle.std.specs.Prelude.{◌≡◌, ℕ, ◌+◌, ◌*◌, ◌/◌, ◌%◌, ◌<◌, ◌≤◌, Bool, List, length, Option, option_map}
 use Rattle.std.specs.List.{list_all, range_with_len}
 use Rattle.dcd_base.specs.declared.media.Run.{Run}
-use Rattle.granule_map.specs.declared.states.GranuleState.{GranuleState}
-use Rattle.granule_map.specs.Choices.{longest_run, lowest_run, passing}
-use Rattle.granule_map.specs.StateLists.{is_free_at}
+use Rattle.granule_map.specs.{declared.states.GranuleState.GranuleState, Choices.longest_run, Choices.lowest_run, Choices.passing, StateLists.is_free_at}
 
 -- The area is made of whole blocks, and all of it is in the list.
 pub record IsArea (states : List GranuleState) (area : Run) (per_block : ℕ) : Type 0 where

@@ -1,7 +1,6 @@
 -- What holds of the counts that the table keeps.
 use Rattle.std.specs.Prelude.{◌≡◌, ℕ, ◌<◌, ◌^◌, List, length}
-use Rattle.granule_map.specs.StateLists.{States, count_of}
-use Rattle.granule_map.specs.declared.states.GranuleState.{GranuleState}
+use Rattle.granule_map.specs.{StateLists.States, StateLists.count_of, declared.states.GranuleState.GranuleState}
 
 -- Each granule has both of its marks, there is memory for changes, and the counts are those of the states.
 pub record IsCountOf (map : States) (unclean : List ℕ) (free dirty : ℕ) : Type 0 where

@@ -1,9 +1,7 @@
 -- The states of a device's granules, as a list by number.
 use Rattle.std.specs.Prelude.{◌≡◌, ◌^◌, ◌<◌, map, ℕ, ◌+◌, Bool, true, false, ◌==◌, List, ◌++◌, take, drop, replicate, count_by, slice_index_or, find, Option, length, ◌-◌, if◌then◌else◌}
 use Rattle.std.specs.List.{range_with_len}
-use Rattle.dcd_base.specs.Words.{same_tag}
-use Rattle.dcd_base.specs.declared.capacity.Tag.{Tag}
-use Rattle.dcd_base.specs.declared.media.Run.{Run}
+use Rattle.dcd_base.specs.{Words.same_tag, declared.capacity.Tag.Tag, declared.media.Run.Run}
 use Rattle.granule_map.specs.declared.states.GranuleState.{GranuleState}
 
 -- the states in the order of the granules, and for how many changes more there is memory

@@ -1,7 +1,6 @@
 -- The table of the granules, and what each change makes of it.
 use Rattle.std.specs.Prelude.{◌≡◌, ℕ, ◌<◌, Bool, true, false, if◌then◌else◌, List, length, slice_index_or}
-use Rattle.dcd_base.specs.Words.{has_granule}
-use Rattle.dcd_base.specs.declared.media.Run.{Run}
+use Rattle.dcd_base.specs.{Words.has_granule, declared.media.Run.Run}
 use Rattle.granule_map.specs.declared.states.GranuleState.{GranuleState}
 
 -- one granule: its state, and whether it has to be zeroed before it is free

@@ -2,11 +2,8 @@
 use Rattle.std.specs.Prelude.{◌≡◌, ℕ, ◌+◌, ◌<◌, false, List, ◌++◌, take, drop, replicate, length, map, slice_index_or}
 use Rattle.memchr.specs.Find.{is_byte}
 use Rattle.std.specs.List.{range_with_len}
-use Rattle.dcd_base.specs.Words.{zero_tag}
-use Rattle.dcd_base.specs.declared.capacity.Tag.{Tag}
-use Rattle.dcd_base.specs.declared.media.Run.{Run}
-use Rattle.granule_map.specs.StateLists.{AreMarked, told}
-use Rattle.granule_map.specs.declared.states.GranuleState.{GranuleState}
+use Rattle.dcd_base.specs.{Words.zero_tag, declared.capacity.Tag.Tag, declared.media.Run.Run}
+use Rattle.granule_map.specs.{StateLists.AreMarked, StateLists.told, declared.states.GranuleState.GranuleState}
 
 -- the items with this one at each granule of the run
 abbrev pub with_item : {X : Type 0} → Run → X → List X → List X

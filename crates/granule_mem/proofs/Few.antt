@@ -1,11 +1,8 @@
 -- A few words in a row: where a word stands, what a store makes of the row, and the row as a map.
 use Rattle.std.proofs.Common.{◌≡◌, ℕ, zero, suc, ◌+◌, ◌-◌, ◌<◌, ◌≤◌, true, false, cond, List, [], ◌∷◌, ◌++◌, Some, None, length, get_or, set, take, drop, refl, ap, sym, ◌∙◌, eqb, eq-eqb, ne_eqb, inl, inr, arith}
+use Rattle.std.{proofs.lemmas.Bool.cases_eq, proofs.lemmas.Bool.cases_order, proofs.lemmas.Bool.le-ltb, proofs.lemmas.Bool.lt-ltb, specs.BTreeMap.is_at, specs.Ordering.nat_cmp}
 use Rattle.std.specs.Prelude.{unwrap_or}
-use Rattle.std.specs.BTreeMap.{is_at}
-use Rattle.std.specs.Ordering.{nat_cmp}
-use Rattle.std.proofs.lemmas.Bool.{cases_eq, cases_order, le-ltb, lt-ltb}
-use Rattle.granule_mem.specs.Contents.{word_among}
-use Rattle.granule_mem.specs.Words.{HasSameWords, PutsWord, found}
+use Rattle.granule_mem.specs.{Contents.word_among, Words.HasSameWords, Words.PutsWord, Words.found}
 
 -- two numbers tie in the order of numbers exactly where they are equal
 pub is_at_number : (a b : ℕ) → is_at (nat_cmp a) b ≡ eqb a b

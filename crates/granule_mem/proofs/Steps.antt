@@ -1,10 +1,8 @@
 -- What one store, one clearing and one change of a holder leave, granule by granule.
 use Rattle.std.proofs.Common.{◌≡◌, ℕ, ◌+◌, ◌<◌, ◌≤◌, Bool, true, false, cond, List, [], length, get_or, set, refl, ap, sym, ◌∙◌, eqb, leb, ltb, inl, inr, arith}
-use Rattle.std.specs.Prelude.{◌&&◌}
 use Rattle.std.proofs.lemmas.Bool.{cases_eq, cases_lt, eq-eqb, le-leb, le-ltb, lt-ltb, ne_eqb}
-use Rattle.std.proofs.lemmas.List.{get_or_default, get_or-set_other, get_or-set_same, set-get_or}
-use Rattle.granule_mem.specs.Contents.{word_among}
-use Rattle.granule_mem.specs.Words.{PutsWord}
+use Rattle.std.{proofs.lemmas.List.get_or_default, proofs.lemmas.List.get_or-set_other, proofs.lemmas.List.get_or-set_same, proofs.lemmas.List.set-get_or, specs.Prelude.◌&&◌}
+use Rattle.granule_mem.specs.{Contents.word_among, Words.PutsWord}
 
 -- after a change at one place, what stands at any place
 pub get_or-set_cond : {X : Type 0} (xs : List X) (i g : ℕ) (x d : X) → i < length xs → get_or (set xs i x) g d ≡ cond (eqb i g) x (get_or xs g d)

@@ -1,10 +1,7 @@
 -- The words of a device's granules, and who holds each granule.
 use Rattle.std.specs.Prelude.{◌≡◌, ◌==◌, ◌&&◌, ℕ, nat_le, nat_lt, List, [], if◌then◌else◌, slice_index, slice_index_or, unwrap_or}
-use Rattle.std.specs.BTreeMap.{is_at}
-use Rattle.std.specs.Map.{lookup}
-use Rattle.std.specs.Ordering.{nat_cmp}
-use Rattle.dcd_base.specs.Words.{has_granule}
-use Rattle.dcd_base.specs.declared.media.Run.{Run}
+use Rattle.std.specs.{BTreeMap.is_at, Map.lookup, Ordering.nat_cmp}
+use Rattle.dcd_base.specs.{Words.has_granule, declared.media.Run.Run}
 
 -- for each granule the words that were stored, by their numbers, and a bit for each host that holds it
 pub record Media : Type 0 where

@@ -1,10 +1,7 @@
 -- The words of one granule, and where they lie.
 use Rattle.std.specs.Prelude.{◌≡◌, ◌==◌, ◌<◌, ℕ, List, length, take, slice_index_or, Option, Some, None, if◌then◌else◌}
-use Rattle.std.specs.BTreeMap.{is_at}
-use Rattle.std.specs.Map.{lookup}
-use Rattle.std.specs.Ordering.{nat_cmp}
-use Rattle.granule_mem.specs.declared.kept.Kept.{Kept}
-use Rattle.granule_mem.specs.Contents.{word_among}
+use Rattle.std.specs.{BTreeMap.is_at, Map.lookup, Ordering.nat_cmp}
+use Rattle.granule_mem.specs.{declared.kept.Kept.Kept, Contents.word_among}
 
 -- the words, each beside its number, wherever they lie
 abbrev pub kept_words : Kept → List (ℕ × ℕ)

@@ -1,29 +1,17 @@
 -- A response that breaks no rule is its outcome.
 use Rattle.std.proofs.Common.{◌≡◌, ℕ, ◌<◌, Bool, true, false, List, [], ◌∷◌, ◌++◌, length, map, None, refl, ap, sym, subst, ◌∙◌, append-nil, arith}
 use Rattle.std.specs.Prelude.{All}
-use Rattle.cci_codec.specs.dcd_base.specs.declared.ids.HostId.{HostId}
-use Rattle.cci_codec.specs.dcd_base.specs.declared.capacity.Extent.{Extent}
-use Rattle.cci_codec.specs.dcd_base.specs.declared.steps.LogId.{LogId}
+use Rattle.cci_codec.specs.dcd_base.specs.declared.{ids.HostId.HostId, capacity.Extent.Extent, steps.LogId.LogId}
 use Rattle.event_records.specs.declared.events.EventKind.{EventKind}
-use Rattle.extent_list.specs.media_map.specs.region_config.specs.Configurations.{Configuration}
-use Rattle.extent_list.specs.media_map.specs.region_config.specs.Granules.{with_blocks}
-use Rattle.extent_list.specs.media_map.specs.region_config.specs.Soundness.{IsSound}
-use Rattle.journal_core.specs.declared.outcome.Effect.{Effect}
-use Rattle.journal_core.specs.declared.outcome.HeldKind.{HeldKind}
-use Rattle.extent_list.specs.media_map.specs.Places.{run_of}
-use Rattle.extent_list.specs.ExtentLists.{marked, tags_of}
-use Rattle.offer_core.specs.Offerings.{oldest_of}
-use Rattle.offer_core.specs.Responses.{respond_rule}
-use Rattle.extent_list.specs.HostLists.{Lists}
-use Rattle.device_commands.specs.device_rules.specs.Outcomes.{records_of_extents}
+use Rattle.extent_list.specs.{ExtentLists.marked, ExtentLists.tags_of, HostLists.Lists, media_map.specs.Places.run_of, media_map.specs.region_config.specs.Configurations.Configuration}
+use Rattle.extent_list.specs.media_map.specs.region_config.specs.{Granules.with_blocks, Soundness.IsSound}
+use Rattle.journal_core.specs.declared.outcome.{Effect.Effect, HeldKind.HeldKind}
+use Rattle.offer_core.specs.{Offerings.oldest_of, Responses.respond_rule}
+use Rattle.device_commands.specs.{Drafts.Drafts, ListDrafts.Tells, declared.draft.Draft.Draft, device_rules.proofs.Homes.run_same, device_rules.specs.Outcomes.records_of_extents}
 use Rattle.device_commands.specs.device_rules.specs.ResponseOutcomes.{hold, respond_changes, respond_outcome, response_records, unhold}
 use Rattle.device_commands.specs.device_rules.specs.Views.{View, view_after, lists_in}
-use Rattle.device_commands.specs.device_rules.proofs.Homes.{run_same}
-use Rattle.device_commands.specs.declared.draft.Draft.{Draft}
-use Rattle.device_commands.specs.Drafts.{Drafts}
-use Rattle.device_commands.specs.ListDrafts.{Tells}
-use Rattle.host_commands.specs.AddDynamicCapacityResponse.{IsAnswered, takes, told_extents, told_of}
 use Rattle.host_commands.proofs.ListedExtents.{Granular, marked_granular, response_granular}
+use Rattle.host_commands.specs.AddDynamicCapacityResponse.{IsAnswered, takes, told_extents, told_of}
 
 -- the same runs are taken
 takes_same : (c : Configuration) (b : ℕ → ℕ) (h : HostId) (offer xs : List Extent) → takes (with_blocks c b) h (map (marked offer) xs) ≡ map (λ x. Effect.Take h (run_of c h x)) xs

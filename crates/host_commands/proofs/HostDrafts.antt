@@ -1,20 +1,12 @@
 -- What the commands of a host draft is the outcome of its request.
 use Rattle.std.proofs.Common.{◌≡◌, ℕ, List, Option, ap, map, refl, sym, ◌∙◌}
-use Rattle.std.specs.declared.result.Result.{Result}
-use Rattle.std.specs.declared.result.Result.TheVariants.{Ok, Err}
-use Rattle.cci_codec.specs.declared.messages.Request.{Request}
-use Rattle.cci_codec.specs.dcd_base.specs.declared.ids.HostId.{HostId}
-use Rattle.extent_list.specs.dcd_codes.specs.Rules.{ByRow}
-use Rattle.extent_list.specs.dcd_codes.specs.declared.refusals.Refusal.{Refusal}
-use Rattle.extent_list.specs.dcd_codes.specs.declared.rules.Rule.{Rule}
-use Rattle.host_payloads.specs.HostPayloads.{host_request}
-use Rattle.host_payloads.specs.declared.requests.HostRequest.{HostRequest}
+use Rattle.std.specs.declared.result.Result.{Result, TheVariants.Ok, TheVariants.Err}
+use Rattle.cci_codec.specs.{declared.messages.Request.Request, dcd_base.specs.declared.ids.HostId.HostId}
+use Rattle.extent_list.specs.dcd_codes.specs.{Rules.ByRow, declared.refusals.Refusal.Refusal, declared.rules.Rule.Rule}
 use Rattle.extent_list.specs.media_map.specs.region_config.specs.Configurations.{Configuration}
-use Rattle.device_commands.specs.device_rules.specs.Answers.{host_outcome, host_rule}
-use Rattle.device_commands.specs.device_rules.specs.Outcomes.{Outcome, only}
-use Rattle.device_commands.specs.device_rules.specs.Views.{View, view_after}
-use Rattle.device_commands.specs.declared.draft.Draft.{Draft}
-use Rattle.device_commands.specs.Drafts.{Drafts, IsOutcome, as_records}
+use Rattle.host_payloads.specs.{HostPayloads.host_request, declared.requests.HostRequest.HostRequest}
+use Rattle.device_commands.specs.{Drafts.Drafts, Drafts.IsOutcome, Drafts.as_records, declared.draft.Draft.Draft, device_rules.specs.Answers.host_outcome, device_rules.specs.Answers.host_rule}
+use Rattle.device_commands.specs.device_rules.specs.{Outcomes.Outcome, Outcomes.only, Views.View, Views.view_after}
 use Rattle.host_commands.specs.HostMessages.{IsDrafted}
 
 -- what is made is made more

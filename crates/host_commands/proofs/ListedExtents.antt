@@ -1,24 +1,14 @@
 -- What the rows of responses and releases say of the extents that they list.
 use Rattle.std.proofs.Common.{◌≡◌, ℕ, zero, suc, ◌+◌, ◌<◌, true, false, not, List, [], ◌∷◌, ◌++◌, length, map, None, arith}
-use Rattle.std.specs.Prelude.{All}
-use Rattle.std.specs.List.{AllByRecursion}
-use Rattle.cci_codec.specs.dcd_base.specs.declared.capacity.Extent.{Extent}
-use Rattle.cci_codec.specs.dcd_base.specs.declared.ids.HostId.{HostId}
-use Rattle.extent_list.specs.dcd_codes.specs.declared.rules.Rule.{Rule}
-use Rattle.extent_list.specs.dcd_codes.specs.Rules.{◌breaks◌, each_in}
-use Rattle.extent_list.specs.media_map.specs.region_config.specs.Configurations.{Configuration}
-use Rattle.extent_list.specs.media_map.specs.region_config.specs.Soundness.{IsSound}
-use Rattle.extent_list.specs.media_map.specs.Places.{is_granular, region_at}
-use Rattle.extent_list.specs.ExtentLists.{is_in, marked}
-use Rattle.extent_list.specs.Listing.{incomplete, misplaced, not_whole, overlapping, too_many_extents, too_many_listed}
-use Rattle.offer_core.specs.Offerings.{oldest_of}
-use Rattle.offer_core.specs.Responses.{extent_rule, respond_rule}
-use Rattle.release_core.specs.Leaving.{count_after}
-use Rattle.release_core.specs.Releases.{give_back_rule}
+use Rattle.std.specs.{Prelude.All, List.AllByRecursion}
+use Rattle.cci_codec.specs.dcd_base.specs.declared.{capacity.Extent.Extent, ids.HostId.HostId}
+use Rattle.extent_list.specs.{ExtentLists.is_in, ExtentLists.marked, Listing.incomplete, Listing.misplaced, Listing.not_whole, Listing.overlapping, Listing.too_many_extents, Listing.too_many_listed}
+use Rattle.extent_list.specs.dcd_codes.specs.{Rules.◌breaks◌, Rules.each_in, declared.rules.Rule.Rule}
+use Rattle.extent_list.specs.media_map.specs.{Places.is_granular, Places.region_at, region_config.specs.Configurations.Configuration, region_config.specs.Soundness.IsSound}
+use Rattle.offer_core.specs.{Offerings.oldest_of, Responses.extent_rule, Responses.respond_rule}
+use Rattle.release_core.{specs.Leaving.count_after, specs.Releases.give_back_rule, proofs.Members.neither}
 use Rattle.selection.proofs.Placed.{is_made_of_granules, placed}
-use Rattle.device_commands.specs.device_rules.proofs.LeftStanding.{going_rule}
-use Rattle.device_commands.specs.device_rules.proofs.Overlaps.{row_each}
-use Rattle.release_core.proofs.Members.{neither}
+use Rattle.device_commands.specs.device_rules.proofs.{LeftStanding.going_rule, Overlaps.row_each}
 
 -- the extent is made of granules of one region
 abbrev pub Granular : Configuration → HostId → Extent → Type 0

@@ -1,28 +1,16 @@
 -- A release that breaks no rule is its outcome.
 use Rattle.std.proofs.Common.{◌≡◌, ℕ, ◌<◌, Bool, true, false, List, [], ◌∷◌, ◌++◌, map, None, refl, ap, sym, subst, ◌∙◌}
 use Rattle.std.specs.Prelude.{All}
-use Rattle.cci_codec.specs.dcd_base.specs.declared.steps.LogId.{LogId}
-use Rattle.cci_codec.specs.dcd_base.specs.declared.ids.HostId.{HostId}
-use Rattle.cci_codec.specs.dcd_base.specs.declared.capacity.Extent.{Extent}
+use Rattle.cci_codec.specs.dcd_base.specs.declared.{steps.LogId.LogId, ids.HostId.HostId, capacity.Extent.Extent}
 use Rattle.event_records.specs.declared.events.EventKind.{EventKind}
-use Rattle.extent_list.specs.media_map.specs.region_config.specs.Configurations.{Configuration}
-use Rattle.extent_list.specs.media_map.specs.region_config.specs.Granules.{with_blocks}
-use Rattle.extent_list.specs.media_map.specs.region_config.specs.Soundness.{IsSound}
-use Rattle.journal_core.specs.declared.outcome.Effect.{Effect}
-use Rattle.journal_core.specs.declared.outcome.HeldKind.{HeldKind}
-use Rattle.extent_list.specs.ExtentLists.{count_in, marked, tags_of}
-use Rattle.extent_list.specs.HostLists.{Lists}
+use Rattle.extent_list.specs.{ExtentLists.count_in, ExtentLists.marked, ExtentLists.tags_of, HostLists.Lists, media_map.specs.region_config.specs.Configurations.Configuration}
+use Rattle.extent_list.specs.media_map.specs.region_config.specs.{Granules.with_blocks, Soundness.IsSound}
+use Rattle.journal_core.specs.declared.outcome.{Effect.Effect, HeldKind.HeldKind}
 use Rattle.release_core.specs.Releases.{give_back_rule}
-use Rattle.device_commands.specs.device_rules.specs.Outcomes.{records_of_extents}
+use Rattle.device_commands.specs.{Drafts.Drafts, ListDrafts.Tells, declared.draft.Draft.Draft, device_rules.proofs.Homes.run_same, device_rules.specs.Outcomes.records_of_extents}
 use Rattle.device_commands.specs.device_rules.specs.ReleaseOutcomes.{give_back_changes, give_back_outcome, leaves, removals}
-use Rattle.device_commands.specs.device_rules.specs.ResponseOutcomes.{hold, unhold}
-use Rattle.device_commands.specs.device_rules.specs.Views.{View, view_after, lists_in}
-use Rattle.device_commands.specs.device_rules.proofs.Homes.{run_same}
-use Rattle.device_commands.specs.declared.draft.Draft.{Draft}
-use Rattle.device_commands.specs.Drafts.{Drafts}
-use Rattle.device_commands.specs.ListDrafts.{Tells}
-use Rattle.host_commands.specs.ReleaseDynamicCapacity.{IsReleased}
-use Rattle.host_commands.proofs.ListedExtents.{Granular, marked_granular, release_granular}
+use Rattle.device_commands.specs.device_rules.specs.{ResponseOutcomes.hold, ResponseOutcomes.unhold, Views.View, Views.view_after, Views.lists_in}
+use Rattle.host_commands.{specs.ReleaseDynamicCapacity.IsReleased, proofs.ListedExtents.Granular, proofs.ListedExtents.marked_granular, proofs.ListedExtents.release_granular}
 
 -- the same runs leave
 removals_same : (c : Configuration) (b : ℕ → ℕ) (h : HostId) (owners xs : List Extent) → removals (with_blocks c b) h false (map (marked owners) xs) ≡ leaves c h xs

@@ -1,24 +1,14 @@
 -- What a response that is answered takes and tells, 4802h.
 use Rattle.std.specs.Prelude.{◌≡◌, Bool, false, List, [], ◌∷◌, map, ◌++◌}
-use Rattle.cci_codec.specs.dcd_base.specs.declared.ids.HostId.{HostId}
-use Rattle.cci_codec.specs.dcd_base.specs.declared.capacity.Extent.{Extent}
-use Rattle.cci_codec.specs.dcd_base.specs.declared.steps.LogId.{LogId}
-use Rattle.event_records.specs.declared.events.Event.{Event}
-use Rattle.event_records.specs.declared.events.EventKind.{EventKind}
-use Rattle.extent_list.specs.media_map.specs.region_config.specs.Configurations.{Configuration}
+use Rattle.cci_codec.specs.dcd_base.specs.declared.{ids.HostId.HostId, capacity.Extent.Extent, steps.LogId.LogId}
+use Rattle.event_records.specs.declared.events.{Event.Event, EventKind.EventKind}
+use Rattle.extent_list.specs.{ExtentLists.tags_of, HostLists.Lists, media_map.specs.Places.run_of, media_map.specs.region_config.specs.Configurations.Configuration}
 use Rattle.extent_list.specs.media_map.specs.region_config.specs.Granules.{with_blocks}
-use Rattle.journal_core.specs.declared.outcome.Effect.{Effect}
-use Rattle.extent_list.specs.media_map.specs.Places.{run_of}
-use Rattle.device_commands.specs.device_rules.specs.Outcomes.{no_extent, record_for, records_of_extents}
+use Rattle.journal_core.specs.declared.outcome.{Effect.Effect, HeldKind.HeldKind}
+use Rattle.device_commands.specs.{Drafts.Drafts, ListDrafts.Tells, declared.draft.Draft.Draft}
+use Rattle.device_commands.specs.device_rules.specs.{Outcomes.no_extent, Outcomes.record_for, Outcomes.records_of_extents, ResponseOutcomes.respond_outcome, ResponseOutcomes.unhold}
 use Rattle.device_commands.specs.device_rules.specs.Views.{View, lists_in}
-use Rattle.extent_list.specs.ExtentLists.{tags_of}
 use Rattle.offer_core.specs.Offerings.{oldest_of}
-use Rattle.journal_core.specs.declared.outcome.HeldKind.{HeldKind}
-use Rattle.device_commands.specs.device_rules.specs.ResponseOutcomes.{respond_outcome, unhold}
-use Rattle.device_commands.specs.Drafts.{Drafts}
-use Rattle.device_commands.specs.ListDrafts.{Tells}
-use Rattle.device_commands.specs.declared.draft.Draft.{Draft}
-use Rattle.extent_list.specs.HostLists.{Lists}
 
 -- the host takes each of the extents
 abbrev pub takes : Configuration → HostId → List Extent → List Effect

@@ -1,14 +1,8 @@
 -- What is answered of a host's accepted extents, 4801h.
-use Rattle.std.specs.Prelude.{◌≡◌, ℕ, length}
-use Rattle.std.specs.declared.result.Result.{Result}
-use Rattle.extent_list.specs.dcd_codes.specs.Rules.{ByRow}
-use Rattle.extent_list.specs.dcd_codes.specs.declared.refusals.Refusal.{Refusal}
-use Rattle.extent_list.specs.HostLists.{Lists}
-use Rattle.device_commands.specs.device_rules.specs.Outcomes.{only}
-use Rattle.device_commands.specs.device_rules.specs.Settings.{extents_reply, past_end}
+use Rattle.std.specs.{Prelude.◌≡◌, Prelude.ℕ, Prelude.length, declared.result.Result.Result}
+use Rattle.extent_list.specs.{dcd_codes.specs.Rules.ByRow, dcd_codes.specs.declared.refusals.Refusal.Refusal, HostLists.Lists}
+use Rattle.device_commands.specs.{Drafts.IsOutcome, declared.draft.Draft.Draft, device_rules.specs.Outcomes.only, device_rules.specs.Settings.extents_reply, device_rules.specs.Settings.past_end}
 use Rattle.device_commands.specs.device_rules.specs.Views.{View, lists_in}
-use Rattle.device_commands.specs.Drafts.{IsOutcome}
-use Rattle.device_commands.specs.declared.draft.Draft.{Draft}
 
 -- By its row, for each view that the lists show.
 abbrev pub AnswersExtents : Lists → ℕ → ℕ → Result Draft Refusal → Type 0

@@ -1,8 +1,7 @@
 -- What is held of the lists of several messages.
 use Rattle.std.specs.Prelude.{ℕ, ◌==◌, List, [], if◌then◌else◌}
 use Rattle.cci_codec.specs.dcd_base.specs.declared.ids.HostId.{HostId}
-use Rattle.journal_core.specs.declared.outcome.Effect.{Effect}
-use Rattle.journal_core.specs.declared.outcome.HeldKind.{HeldKind}
+use Rattle.journal_core.specs.declared.outcome.{Effect.Effect, HeldKind.HeldKind}
 use Rattle.extent_list.specs.HostLists.{Lists}
 use Rattle.device_commands.specs.device_rules.specs.ResponseOutcomes.{unhold}
 

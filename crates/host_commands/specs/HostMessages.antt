@@ -1,23 +1,12 @@
 -- How a host's message is read, and what it comes to by what the device keeps of the host.
-use Rattle.std.specs.Prelude.{◌≡◌, None}
-use Rattle.std.specs.declared.result.Result.{Result}
-use Rattle.std.specs.declared.result.Result.TheVariants.{Ok, Err}
-use Rattle.cci_codec.specs.declared.messages.Request.{Request}
-use Rattle.cci_codec.specs.dcd_base.specs.declared.ids.HostId.{HostId}
-use Rattle.cci_codec.specs.dcd_base.specs.declared.steps.LogId.{LogId}
-use Rattle.extent_list.specs.dcd_codes.specs.Rules.{ByRow}
-use Rattle.extent_list.specs.dcd_codes.specs.declared.refusals.Refusal.{Refusal}
-use Rattle.event_log.specs.LogStates.{LogState}
-use Rattle.extent_list.specs.media_map.specs.region_config.specs.Configurations.{Configuration}
+use Rattle.std.specs.{Prelude.◌≡◌, Prelude.None, declared.result.Result.Result, declared.result.Result.TheVariants.Ok, declared.result.Result.TheVariants.Err}
+use Rattle.cci_codec.specs.{declared.messages.Request.Request, dcd_base.specs.declared.ids.HostId.HostId, dcd_base.specs.declared.steps.LogId.LogId}
+use Rattle.extent_list.specs.{HostLists.Lists, dcd_codes.specs.Rules.ByRow, dcd_codes.specs.declared.refusals.Refusal.Refusal, media_map.specs.region_config.specs.Configurations.Configuration}
 use Rattle.extent_list.specs.media_map.specs.region_config.specs.Granules.{with_blocks}
-use Rattle.host_payloads.specs.HostPayloads.{host_request}
-use Rattle.host_payloads.specs.declared.requests.HostRequest.{HostRequest}
-use Rattle.extent_list.specs.HostLists.{Lists}
-use Rattle.device_commands.specs.device_rules.specs.Answers.{host_outcome, host_result_in, host_rule}
+use Rattle.event_log.specs.{LogStates.LogState, Logs.IsLogOf}
+use Rattle.host_payloads.specs.{HostPayloads.host_request, declared.requests.HostRequest.HostRequest}
+use Rattle.device_commands.specs.{Drafts.Drafts, declared.draft.Draft.Draft, device_rules.specs.Answers.host_outcome, device_rules.specs.Answers.host_result_in, device_rules.specs.Answers.host_rule}
 use Rattle.device_commands.specs.device_rules.specs.Views.{View, lists_in}
-use Rattle.device_commands.specs.declared.draft.Draft.{Draft}
-use Rattle.device_commands.specs.Drafts.{Drafts}
-use Rattle.event_log.specs.Logs.{IsLogOf}
 
 -- The draft is the outcome of the request that the message is, which breaks no rule.
 pub record IsDraft (c : Configuration) (h : HostId) (v : View) (q : Request) (draft : Draft) : Type 0 where

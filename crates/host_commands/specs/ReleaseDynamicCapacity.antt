@@ -1,22 +1,11 @@
 -- What a release that ends changes and tells, 4803h.
 use Rattle.std.specs.Prelude.{◌≡◌, ◌++◌, Bool, false, List}
-use Rattle.cci_codec.specs.dcd_base.specs.declared.capacity.Extent.{Extent}
-use Rattle.cci_codec.specs.dcd_base.specs.declared.ids.HostId.{HostId}
-use Rattle.cci_codec.specs.dcd_base.specs.declared.steps.LogId.{LogId}
+use Rattle.cci_codec.specs.dcd_base.specs.declared.{capacity.Extent.Extent, ids.HostId.HostId, steps.LogId.LogId}
 use Rattle.event_records.specs.declared.events.EventKind.{EventKind}
-use Rattle.extent_list.specs.ExtentLists.{tags_of}
-use Rattle.extent_list.specs.HostLists.{Lists}
-use Rattle.journal_core.specs.declared.outcome.Effect.{Effect}
-use Rattle.journal_core.specs.declared.outcome.HeldKind.{HeldKind}
-use Rattle.extent_list.specs.media_map.specs.region_config.specs.Configurations.{Configuration}
-use Rattle.extent_list.specs.media_map.specs.region_config.specs.Granules.{with_blocks}
-use Rattle.device_commands.specs.device_rules.specs.Outcomes.{records_of_extents}
-use Rattle.device_commands.specs.device_rules.specs.ReleaseOutcomes.{give_back_outcome, removals}
-use Rattle.device_commands.specs.device_rules.specs.ResponseOutcomes.{unhold}
-use Rattle.device_commands.specs.device_rules.specs.Views.{View, lists_in}
-use Rattle.device_commands.specs.Drafts.{Drafts}
-use Rattle.device_commands.specs.ListDrafts.{Tells}
-use Rattle.device_commands.specs.declared.draft.Draft.{Draft}
+use Rattle.extent_list.specs.{ExtentLists.tags_of, HostLists.Lists, media_map.specs.region_config.specs.Configurations.Configuration, media_map.specs.region_config.specs.Granules.with_blocks}
+use Rattle.journal_core.specs.declared.outcome.{Effect.Effect, HeldKind.HeldKind}
+use Rattle.device_commands.specs.{Drafts.Drafts, ListDrafts.Tells, declared.draft.Draft.Draft, device_rules.specs.Outcomes.records_of_extents}
+use Rattle.device_commands.specs.device_rules.specs.{ReleaseOutcomes.give_back_outcome, ReleaseOutcomes.removals, ResponseOutcomes.unhold, Views.View, Views.lists_in}
 
 -- what a release changes: what is held goes, and the extents leave
 abbrev pub release_changes : Configuration → HostId → Lists → List Extent → List Effect

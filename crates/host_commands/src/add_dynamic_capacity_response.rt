@@ -16,10 +16,10 @@ ghost use Rattle.journal_core.specs.declared.outcome.HeldKind.{HeldKind};
 ghost use Rattle.offer_core.specs.Responses.{respond_rule};
 ghost use Rattle.std.specs.Prelude.{◌≡◌, ◌++◌, ◌∷◌, ◌<◌, ◌≤◌, [], All, IfOk, IsTrue, None, OnOk, length};
 
-use crate::held_lists::{held, append_unhold, unheld};
+use crate::held_lists::{append_unhold, held, unheld};
 use cci_codec::dcd_base::{Bytes, Extent, Extents, HostId, LogId, NoMemory, ShortList};
 use device_commands::host_lists::HostLists;
-use device_commands::{Draft, LogRecords, no_extent, append_effect, records_to, run_of, tags_of};
+use device_commands::{Draft, LogRecords, append_effect, no_extent, records_to, run_of, tags_of};
 use event_records::EventKind;
 use extent_list::dcd_codes::Refusal;
 use extent_list::media_map::region_config::Config;

@@ -13,7 +13,7 @@ ghost use Rattle.journal_core.specs.declared.outcome.HeldKind.{HeldKind};
 ghost use Rattle.release_core.specs.Releases.{give_back_rule};
 ghost use Rattle.std.specs.Prelude.{◌≡◌, ◌++◌, ◌<◌, ◌≤◌, All, IfOk, IsTrue, None};
 
-use crate::held_lists::{held, append_unhold};
+use crate::held_lists::{append_unhold, held};
 use cci_codec::dcd_base::{Bytes, Extent, Extents, HostId, LogId, NoMemory};
 use device_commands::host_lists::HostLists;
 use device_commands::{Draft, append_leaves, records_to, tags_of};

@@ -1,21 +1,16 @@
 -- What the driver's own requests do, where the device answers them.
 use Rattle.std.proofs.Common.{◌≡◌, ℕ, ◌+◌, ◌^◌, ◌<◌, ◌≤◌, Bool, true, false, List, [], ◌∷◌, ◌++◌, length, take, drop, refl, sym, ap, subst, ◌∙◌, inl, inr, append-nil, arith}
+use Rattle.std.proofs.lemmas.{Bool.cases_Bool, Bool.false≢true, List.drop_at, List.length-map, List.length-take, List.take-append-drop}
 use Rattle.std.specs.List.{AllByRecursion}
-use Rattle.std.proofs.lemmas.List.{drop_at, length-map, length-take, take-append-drop}
-use Rattle.std.proofs.lemmas.Bool.{cases_Bool, false≢true}
-use Rattle.dcd_base.specs.declared.capacity.Extent.{Extent}
-use Rattle.dcd_base.specs.Words.{is_empty}
+use Rattle.dcd_base.specs.{declared.capacity.Extent.Extent, Words.is_empty}
 use Rattle.event_records.specs.declared.events.Event.{Event}
 use Rattle.extent_list.specs.ExtentLists.{cut_all, has_range, is_in}
 use Rattle.device_plain.specs.device_rules.proofs.ListSteps.{each-append, each-both, each-change, each-front}
-use Rattle.host_driver.specs.declared.due.Due.{Due}
-use Rattle.host_driver.specs.Driving.{Driven, cut_all_out, gone_on, with_page}
-use Rattle.host_driver.proofs.Apart.{turned, within}
-use Rattle.host_driver.proofs.Brought.{beside_cuts}
-use Rattle.host_driver.proofs.Midway.{Agrees, Goes, HasPage, IsAtHand, IsRemoval, Seen, cut_out_is, handles_of, left_by, offers_by, treated_agrees}
+use Rattle.host_driver.proofs.{Apart.turned, Apart.within, Brought.beside_cuts}
 use Rattle.host_driver.proofs.Passing.{EachLies, IsApart, acceptance_leaves, acceptance_passes, cut_by, release_leaves, release_passes, without_all}
 use Rattle.host_driver.proofs.Pending.{AreBehind, AreBeside, IsBeside, behind_each, behind_less, forced_in, left_of, offers_in}
-use Rattle.host_driver.specs.Spelling.{IsSpelled}
+use Rattle.host_driver.specs.{Driving.Driven, Driving.cut_all_out, Driving.gone_on, Driving.with_page, Spelling.IsSpelled, declared.due.Due.Due}
+use Rattle.host_driver.proofs.Midway.{Agrees, Goes, HasPage, IsAtHand, IsRemoval, Seen, cut_out_is, handles_of, left_by, offers_by, treated_agrees}
 
 -- ---- a page is read
 

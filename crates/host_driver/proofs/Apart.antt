@@ -1,13 +1,11 @@
 -- Extents of which no two share an address, and what cuts leave of them.
 use Rattle.std.proofs.Common.{◌≡◌, ℕ, ◌+◌, ◌-◌, ◌<◌, ◌≤◌, true, false, List, [], ◌∷◌, ◌++◌, refl, sym, subst, inl, inr, ◌⊎◌, arith}
-use Rattle.std.specs.Prelude.{if◌then◌else◌}
-use Rattle.std.specs.List.{AllByRecursion, list_any}
 use Rattle.std.proofs.lemmas.Bool.{cases_Bool, cases_lt, false≢true, le-ltb, lt-ltb}
+use Rattle.std.specs.{List.AllByRecursion, List.list_any, Prelude.if◌then◌else◌}
 use Rattle.dcd_base.specs.declared.capacity.Extent.{Extent}
 use Rattle.extent_list.specs.ExtentLists.{cut, has_range, piece, without}
 use Rattle.device_plain.specs.device_rules.proofs.ListSteps.{each-append, each-back, each-change, each-front}
-use Rattle.host_driver.proofs.Exchanging.{begins, ends}
-use Rattle.host_driver.proofs.Pending.{AreBeside, IsBeside}
+use Rattle.host_driver.proofs.{Exchanging.begins, Exchanging.ends, Pending.AreBeside, Pending.IsBeside}
 
 -- no extent shares an address with one behind it
 abbrev pub AreApart : List Extent → Type 0

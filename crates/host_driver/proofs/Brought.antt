@@ -1,18 +1,13 @@
 -- What others bring a host: offers, requests to release, removals and new block sizes.
 use Rattle.std.proofs.Common.{◌≡◌, ◌+◌, ◌^◌, ◌<◌, true, List, [], ◌∷◌, ◌++◌, sym, ap, subst, ◌∙◌, inl, inr, append_assoc, append-nil}
-use Rattle.std.specs.Prelude.{flat_map}
-use Rattle.std.specs.List.{AllByRecursion}
-use Rattle.std.proofs.lemmas.Bool.{cases_Bool, false≢true}
-use Rattle.std.proofs.lemmas.List.Sums.{fold-append}
+use Rattle.std.{specs.Prelude.flat_map, specs.List.AllByRecursion, proofs.lemmas.Bool.cases_Bool, proofs.lemmas.Bool.false≢true, proofs.lemmas.List.Sums.fold-append}
 use Rattle.dcd_base.specs.declared.capacity.Extent.{Extent}
 use Rattle.event_records.specs.declared.events.Event.{Event}
 use Rattle.extent_list.specs.ExtentLists.{cut_all, has_range, is_in}
 use Rattle.device_plain.specs.device_rules.proofs.ListSteps.{each-append, each-both, each-change}
-use Rattle.host_driver.specs.declared.due.Due.{Due}
-use Rattle.host_driver.specs.Driving.{Driven}
 use Rattle.host_driver.proofs.Apart.{AreApart, apart-across, apart-front, apart_cut, beside_cut, cut_beside, within}
-use Rattle.host_driver.proofs.Midway.{Agrees, Goes, IsRemoval, Seen, left_by, offers_by}
-use Rattle.host_driver.proofs.Passing.{EachLies, cut_by, without_all}
+use Rattle.host_driver.proofs.{Midway.Agrees, Midway.Goes, Midway.IsRemoval, Midway.Seen, Midway.left_by, Midway.offers_by, Passing.EachLies, Passing.cut_by, Passing.without_all}
+use Rattle.host_driver.specs.{Driving.Driven, declared.due.Due.Due}
 use Rattle.host_driver.proofs.Pending.{AreBehind, AreBeside, IsBeside, behind-append, forced-append, forced_in, left-append, left_of, offered_from, offered_is, offered_with, offers-append, offers_in}
 
 -- ---- more records behind, by what is due

@@ -1,11 +1,8 @@
 -- What words ask for is what is found in them.
 use Rattle.std.proofs.Common.{◌≡◌, ℕ, Bool, true, false, ◌&&◌, List, [], ◌∷◌, Option, Some, None, refl, sym, ap, subst, ◌∙◌, arith, length}
-use Rattle.std.specs.Prelude.{if◌then◌else◌}
-use Rattle.std.proofs.lemmas.Bool.{and_from, and_parts, false≢true}
-use Rattle.edge_io.specs.Words.{is_number, number_in}
-use Rattle.edge_io.proofs.WordNumbers.{is_a_number, number_is}
-use Rattle.host_driver.specs.Words.{AsksForNoDrive, AsksToDrive, IsDriveChoice, drive_choice, host_digits, bound_digits}
-use Rattle.host_driver.specs.declared.words.DriveChoice.{DriveChoice}
+use Rattle.std.{specs.Prelude.if◌then◌else◌, proofs.lemmas.Bool.and_from, proofs.lemmas.Bool.and_parts, proofs.lemmas.Bool.false≢true}
+use Rattle.edge_io.{specs.Words.is_number, specs.Words.number_in, proofs.WordNumbers.is_a_number, proofs.WordNumbers.number_is}
+use Rattle.host_driver.specs.{Words.AsksForNoDrive, Words.AsksToDrive, Words.IsDriveChoice, Words.drive_choice, Words.host_digits, Words.bound_digits, declared.words.DriveChoice.DriveChoice}
 
 abbrev head_of : List (List ℕ) → List ℕ
 head_of [] = []

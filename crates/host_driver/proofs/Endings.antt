@@ -1,27 +1,15 @@
 -- From how a run over an input ends to what is planned for it.
 use Rattle.std.proofs.Common.{◌≡◌, ℕ, ◌<◌, ◌≤◌, List, ◌++◌, Some, Ok, Err, length, take, refl, sym, ap, subst, ◌∙◌, arith}
-use Rattle.std.proofs.lemmas.List.{length-take, take_all}
-use Rattle.std.proofs.lemmas.Option.{none-some, same_Some}
-use Rattle.std.specs.Prelude.{IfOk}
-use Rattle.std.specs.declared.result.Result.{Result}
-use Rattle.dcd_base.specs.declared.failures.NoMemory.{NoMemory}
-use Rattle.dcd_base.specs.declared.capacity.Extent.{Extent}
+use Rattle.std.{proofs.lemmas.List.length-take, proofs.lemmas.List.take_all, proofs.lemmas.Option.none-some, proofs.lemmas.Option.same_Some, specs.Prelude.IfOk, specs.declared.result.Result.Result}
+use Rattle.dcd_base.specs.declared.{failures.NoMemory.NoMemory, capacity.Extent.Extent}
 use Rattle.edge_io.specs.Meanings.{Decides}
 use Rattle.region_config.specs.Configurations.{Configuration}
 use Rattle.journal_core.specs.declared.entries.Entry.{Entry}
-use Rattle.report.specs.Refusals.{refusal_line}
-use Rattle.report.specs.Texts.{text}
-use Rattle.report.specs.script_codec.specs.declared.faults.ScriptFault.{ScriptFault}
-use Rattle.report.specs.script_codec.specs.declared.scripts.Script.{Script}
-use Rattle.report.specs.script_codec.specs.Reading.{fault_of, first_fault, script_in}
-use Rattle.report.specs.script_codec.specs.Scripts.{ReadsScript}
-use Rattle.report.specs.script_codec.proofs.Beginnings.{too_long}
-use Rattle.report.specs.script_codec.proofs.ScriptLaws.{script_is}
-use Rattle.host_driver.specs.declared.printed.Printed.{Printed}
-use Rattle.host_driver.specs.declared.status.DriveStatus.{DriveStatus}
-use Rattle.host_driver.specs.declared.words.DriveChoice.{DriveChoice}
+use Rattle.report.specs.{Refusals.refusal_line, Texts.text, script_codec.proofs.Beginnings.too_long, script_codec.proofs.ScriptLaws.script_is}
+use Rattle.report.specs.script_codec.specs.{Reading.fault_of, Reading.first_fault, Reading.script_in, Scripts.ReadsScript, declared.faults.ScriptFault.ScriptFault, declared.scripts.Script.Script}
 use Rattle.host_driver.specs.Journals.{IsDrive}
 use Rattle.host_driver.specs.Planning.{EndsOn, IsDrivenText, IsSoundInput, bytes_of, driver_program, extent_lines, most_bytes, most_of_input}
+use Rattle.host_driver.specs.declared.{printed.Printed.Printed, status.DriveStatus.DriveStatus, words.DriveChoice.DriveChoice}
 
 abbrev Decided : Type 0
 Decided = Result (DriveStatus × Printed) NoMemory

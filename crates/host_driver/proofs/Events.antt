@@ -1,11 +1,9 @@
 -- The event that a record is, and the records of a page one by one.
 use Rattle.std.proofs.Common.{◌≡◌, ℕ, zero, suc, ◌+◌, ◌-◌, ◌<◌, ◌≤◌, List, take, drop, slice_index, Some, None, refl, arith}
-use Rattle.event_records.specs.Records.{IsEventIn, kind_number, record_fault}
+use Rattle.event_records.{proofs.Records.same_event, proofs.Records.kind_small as kind_up_to, specs.Records.IsEventIn, specs.Records.kind_number, specs.Records.record_fault}
 use Rattle.event_records.specs.declared.events.Event.{Event}
-use Rattle.event_records.proofs.Records.{same_event, kind_small as kind_up_to}
 use Rattle.dcd_base.specs.Layouts.{pieces}
-use Rattle.host_driver.specs.Pages.{bad_at, bad_record, event_in, kind_in}
-use Rattle.host_driver.specs.declared.faults.DriverFault.{DriverFault}
+use Rattle.host_driver.specs.{Pages.bad_at, Pages.bad_record, Pages.event_in, Pages.kind_in, declared.faults.DriverFault.DriverFault}
 
 kind_back : (n : ℕ) → n ≤ 5 → kind_number (kind_in n) ≡ n
 kind_back zero few = refl

@@ -1,7 +1,6 @@
 -- Two cuts of ranges apart may change places.
 use Rattle.std.proofs.Common.{refl, ◌≡◌, ◌∙◌, sym, ap, arith, inl, inr, ◌⊎◌, ℕ, ◌+◌, ◌-◌, ◌<◌, ◌≤◌, Bool, true, false, List, [], ◌∷◌, ◌++◌, append_assoc}
-use Rattle.std.specs.Prelude.{nat_lt}
-use Rattle.std.specs.List.{list_any}
+use Rattle.std.specs.{Prelude.nat_lt, List.list_any}
 use Rattle.std.proofs.lemmas.Bool.{and_parts, cases_Bool, false≢true, le-leb, le-ltb, leb-true, lt-ltb, ltb-true, ltb-false}
 use Rattle.dcd_base.specs.declared.capacity.Extent.{Extent}
 use Rattle.extent_list.specs.ExtentLists.{cut, has_range, piece, without}

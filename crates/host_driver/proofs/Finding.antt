@@ -1,15 +1,9 @@
 -- The extent at the index at which a search stops is the one that a search finds, and what a cut of it makes.
 use Rattle.std.proofs.Common.{◌≡◌, ℕ, ◌+◌, ◌≤◌, Bool, true, List, [], ◌∷◌, length, slice_get, Some, None, IfSome, refl, sym, ap, subst, ◌∙◌, inl, inr, arith}
-use Rattle.std.specs.Prelude.{nat_lt, position, find, if◌then◌else◌}
-use Rattle.std.specs.List.{position_or_len}
-use Rattle.std.proofs.lemmas.Bool.{cases_Bool, cases_lt, leb-true, lt-ltb, ltb-true}
-use Rattle.std.proofs.lemmas.List.Folds.{find_at}
-use Rattle.std.proofs.lemmas.List.Quantifiers.{position-Some}
-use Rattle.std.proofs.lemmas.List.Sums.{position_or_len_is}
-use Rattle.std.proofs.lemmas.Option.{none-some}
+use Rattle.std.proofs.lemmas.{Bool.cases_Bool, Bool.cases_lt, Bool.leb-true, Bool.lt-ltb, Bool.ltb-true, List.Folds.find_at, List.Quantifiers.position-Some, List.Sums.position_or_len_is}
+use Rattle.std.{proofs.lemmas.Option.none-some, specs.List.position_or_len, specs.Prelude.nat_lt, specs.Prelude.position, specs.Prelude.find, specs.Prelude.if◌then◌else◌}
 use Rattle.dcd_base.specs.declared.capacity.Extent.{Extent}
-use Rattle.extent_list.specs.ExtentLists.{cut, has_range}
-use Rattle.extent_list.specs.Rooms.{IsCutInAddresses, IsInAddresses}
+use Rattle.extent_list.specs.{ExtentLists.cut, ExtentLists.has_range, Rooms.IsCutInAddresses, Rooms.IsInAddresses}
 use Rattle.host_driver.specs.Driving.{cut_out, cut_within, is_below_end}
 
 pub found_at : (p : Extent → Bool) (xs : List Extent) (i : ℕ) (x : Extent) → position p xs ≡ Some i → slice_get xs i ≡ Some x → find p xs ≡ Some x

@@ -1,31 +1,17 @@
 -- What a driver keeps in every legal journal whose records are spelled.
 use Rattle.std.proofs.Common.{◌≡◌, ℕ, ◌<◌, Bool, true, false, List, [], ◌∷◌, ◌++◌, length, drop, refl, sym, ap, subst, ◌∙◌, arith, length-append}
+use Rattle.std.{proofs.lemmas.List.nil_from_length, proofs.lemmas.List.take-append-drop, proofs.lemmas.List.Sums.fold_push, specs.List.AllByRecursion}
 use Rattle.std.specs.Prelude.{fold, if◌then◌else◌, take}
-use Rattle.std.specs.List.{AllByRecursion}
-use Rattle.std.proofs.lemmas.List.{nil_from_length, take-append-drop}
-use Rattle.std.proofs.lemmas.List.Sums.{fold_push}
-use Rattle.dcd_base.specs.declared.ids.HostId.{HostId}
-use Rattle.dcd_base.specs.declared.steps.LogId.{LogId}
+use Rattle.dcd_base.specs.declared.{ids.HostId.HostId, steps.LogId.LogId}
 use Rattle.event_log.specs.Logs.{Log, cleared_of, empty_log, missed_by, records_in, reset}
-use Rattle.journal_core.specs.Entries.{Each, effects}
-use Rattle.journal_core.specs.declared.entries.Entry.{Entry}
-use Rattle.journal_core.specs.declared.outcome.Effect.{Effect}
-use Rattle.journal_core.proofs.EachSteps.{Each-front, Each-push, EachFrom-at}
-use Rattle.journal_core.proofs.JournalSteps.{effects-push}
-use Rattle.region_config.specs.Configurations.{Configuration}
-use Rattle.region_config.specs.Soundness.{IsSound}
-use Rattle.device_plain.specs.device_rules.specs.Counts.{records_of}
-use Rattle.device_plain.specs.device_rules.specs.Hosts.{accepted_of}
-use Rattle.device_plain.specs.device_rules.specs.Legal.{Legal, Meets}
-use Rattle.device_plain.specs.device_rules.specs.Logs.{log_after, log_of, same_log}
-use Rattle.device_plain.specs.device_rules.specs.Views.{view_of}
-use Rattle.device_plain.specs.device_rules.proofs.LegalSteps.{by_steps}
-use Rattle.device_plain.specs.device_rules.proofs.ListSteps.{each-append, each-back, each-front}
-use Rattle.host_driver.specs.Journals.{IsDriven, IsDrivenStep, IsUnrefused, KeepsTable, driver_of, ends_with}
-use Rattle.host_driver.proofs.Lawful.{Keeps, keeps_first, keeps_on}
-use Rattle.host_driver.proofs.Passing.{without_all}
-use Rattle.host_driver.proofs.Pending.{forced_in}
+use Rattle.journal_core.{proofs.EachSteps.Each-front, proofs.EachSteps.Each-push, proofs.EachSteps.EachFrom-at, proofs.JournalSteps.effects-push, specs.Entries.Each, specs.Entries.effects}
+use Rattle.journal_core.specs.declared.{entries.Entry.Entry, outcome.Effect.Effect}
+use Rattle.region_config.specs.{Configurations.Configuration, Soundness.IsSound}
+use Rattle.device_plain.specs.device_rules.{proofs.LegalSteps.by_steps, proofs.ListSteps.each-append, proofs.ListSteps.each-back, proofs.ListSteps.each-front, specs.Counts.records_of}
+use Rattle.device_plain.specs.device_rules.specs.{Hosts.accepted_of, Legal.Legal, Legal.Meets, Logs.log_after, Logs.log_of, Logs.same_log, Views.view_of}
 use Rattle.device_plain.specs.isolation_laws.specs.Solo.{acts_for}
+use Rattle.host_driver.proofs.{Lawful.Keeps, Lawful.keeps_first, Lawful.keeps_on, Passing.without_all, Pending.forced_in}
+use Rattle.host_driver.specs.Journals.{IsDriven, IsDrivenStep, IsUnrefused, KeepsTable, driver_of, ends_with}
 use Rattle.host_driver.specs.Spelling.{AreSpelled, IsSpelled, IsSpelledIn}
 
 -- ---- records that are spelled

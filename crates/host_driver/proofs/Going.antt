@@ -2,13 +2,10 @@
 use Rattle.std.proofs.Common.{◌≡◌, ℕ, Bool, ◌+◌, ◌<◌, ◌≤◌, List, ◌∷◌, length, get_or, drop, Option, None, refl, ap, subst, ◌∙◌, sym, arith, length-drop}
 use Rattle.std.proofs.lemmas.List.{drop_more}
 use Rattle.dcd_base.specs.declared.capacity.Extent.{Extent}
-use Rattle.event_records.specs.declared.events.Event.{Event}
-use Rattle.event_records.specs.declared.events.EventKind.{EventKind}
+use Rattle.event_records.specs.declared.events.{Event.Event, EventKind.EventKind}
 use Rattle.extent_list.specs.Rooms.{Room}
 use Rattle.host_driver.specs.Driving.{Driven, due_behind, gone_on, noted, offer_ended, request_ended, treated, unless_due}
-use Rattle.host_driver.specs.Keeping.{HasSpare, kept_in}
-use Rattle.host_driver.specs.declared.due.Due.{Due}
-use Rattle.host_driver.specs.declared.kept.Kept.{Kept}
+use Rattle.host_driver.specs.{Keeping.HasSpare, Keeping.kept_in, declared.due.Due.Due, declared.kept.Kept.Kept}
 
 records_stay : (d : Driven) (x : Extent) (k : EventKind) → (noted d x k).records ≡ d.records
 records_stay d x EventKind.Add = refl

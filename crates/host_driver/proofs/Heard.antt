@@ -1,20 +1,12 @@
 -- The device reads what the driver asks.
 use Rattle.std.proofs.Common.{◌≡◌, ℕ, ◌^◌, ◌<◌, ◌≤◌, true, false, List, [], ◌∷◌, length, map, Ok, refl, ◌⊎◌, inl, inr, arith}
-use Rattle.std.specs.Prelude.{nat_le}
-use Rattle.std.specs.List.{AllByRecursion}
-use Rattle.std.proofs.lemmas.Bool.{and_parts, cases_Bool, leb-true}
-use Rattle.std.proofs.lemmas.List.{length-map}
+use Rattle.std.{specs.Prelude.nat_le, specs.List.AllByRecursion, proofs.lemmas.Bool.and_parts, proofs.lemmas.Bool.cases_Bool, proofs.lemmas.Bool.leb-true, proofs.lemmas.List.length-map}
+use Rattle.dcd_base.{proofs.Agreement.Agrees-spelled, proofs.EventCommands.clear_fits, specs.EventCommands.FitsHandle, specs.Layouts.FitsField, specs.Layouts.spelling}
 use Rattle.dcd_base.specs.declared.capacity.Extent.{Extent}
-use Rattle.dcd_base.specs.EventCommands.{FitsHandle}
-use Rattle.dcd_base.specs.Layouts.{FitsField, spelling}
-use Rattle.dcd_base.proofs.Agreement.{Agrees-spelled}
-use Rattle.dcd_base.proofs.EventCommands.{clear_fits}
+use Rattle.host_payloads.proofs.{HostLaws.host_only, Written.list_fits}
 use Rattle.host_payloads.specs.HostPayloads.{FitsListed, host_fields, host_opcode, host_request, lists_untagged}
 use Rattle.host_payloads.specs.declared.requests.HostRequest.{HostRequest}
-use Rattle.host_payloads.proofs.HostLaws.{host_only}
-use Rattle.host_payloads.proofs.Written.{list_fits}
-use Rattle.host_driver.specs.Driving.{Driven, bare, can_take, gives, given_by, taken_by}
-use Rattle.host_driver.proofs.Listed.{bare_untagged}
+use Rattle.host_driver.{specs.Driving.Driven, specs.Driving.bare, specs.Driving.can_take, specs.Driving.gives, specs.Driving.given_by, specs.Driving.taken_by, proofs.Listed.bare_untagged}
 
 abbrev pub Hears : HostRequest → Type 0
 Hears q = host_request (host_opcode q) (spelling (host_fields q)) ≡ Ok q

@@ -1,29 +1,16 @@
 -- What a host holds and is offered shares no address, and an offer that is listed bare is accepted as it is.
 use Rattle.std.proofs.Common.{◌≡◌, ℕ, ◌<◌, false, List, [], ◌∷◌, map, refl}
-use Rattle.std.proofs.lemmas.List.{length-map}
-use Rattle.std.proofs.lemmas.List.Elements.{All-from_recursion}
-use Rattle.dcd_base.specs.declared.capacity.Extent.{Extent}
-use Rattle.dcd_base.specs.declared.ids.HostId.{HostId}
+use Rattle.std.proofs.lemmas.List.{length-map, Elements.All-from_recursion}
+use Rattle.dcd_base.specs.declared.{capacity.Extent.Extent, ids.HostId.HostId}
 use Rattle.extent_list.specs.ExtentLists.{marked, overlaps}
 use Rattle.media_map.specs.Places.{region_at}
-use Rattle.offer_core.specs.InOrder.{AreSome, IsSoundIn, SameAddresses, none, taken, left}
 use Rattle.offer_core.proofs.Owners.{marked_all, owned}
-use Rattle.region_config.specs.Configurations.{Configuration}
-use Rattle.region_config.specs.Granules.{with_blocks}
-use Rattle.region_config.specs.Soundness.{IsSound}
-use Rattle.device_plain.specs.device_rules.specs.Tags.{region_of_offer}
-use Rattle.device_plain.specs.device_rules.proofs.ListSteps.{each-change}
-use Rattle.device_plain.specs.device_rules.specs.Pictures.{Picture, extents_at}
-use Rattle.device_plain.specs.device_rules.specs.Standing.{IsHome, IsMade, Stands}
-use Rattle.device_plain.specs.device_rules.proofs.AllLeave.{Behind}
-use Rattle.device_plain.specs.device_rules.proofs.Going.{all_behind}
-use Rattle.device_plain.specs.device_rules.proofs.Holding.{home_made}
-use Rattle.device_plain.specs.device_rules.proofs.InOrderResponses.{all_apart, each_sound, made_there, once}
-use Rattle.device_plain.specs.device_rules.proofs.OneLeave.{loose}
-use Rattle.host_driver.specs.Driving.{bare}
-use Rattle.host_driver.proofs.Apart.{AreApart}
-use Rattle.host_driver.proofs.Pending.{IsBeside}
-use Rattle.host_driver.proofs.Removals.{is_beside_of}
+use Rattle.offer_core.specs.InOrder.{AreSome, IsSoundIn, SameAddresses, none, taken, left}
+use Rattle.region_config.specs.{Configurations.Configuration, Granules.with_blocks, Soundness.IsSound}
+use Rattle.device_plain.specs.device_rules.proofs.{AllLeave.Behind, Going.all_behind, Holding.home_made}
+use Rattle.device_plain.specs.device_rules.proofs.{InOrderResponses.all_apart, InOrderResponses.each_sound, InOrderResponses.made_there, InOrderResponses.once, ListSteps.each-change, OneLeave.loose}
+use Rattle.device_plain.specs.device_rules.specs.{Pictures.Picture, Pictures.extents_at, Standing.IsHome, Standing.IsMade, Standing.Stands, Tags.region_of_offer}
+use Rattle.host_driver.{specs.Driving.bare, proofs.Apart.AreApart, proofs.Pending.IsBeside, proofs.Removals.is_beside_of}
 
 -- ---- apart
 

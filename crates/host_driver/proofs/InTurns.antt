@@ -1,37 +1,20 @@
 -- The driver asks until it is idle, and the others have their lines between.
 use Rattle.std.proofs.Common.{◌≡◌, ℕ, ◌+◌, ◌<◌, Bool, true, false, List, [], ◌∷◌, ◌++◌, None, length, get_or, take, refl, sym, ap, subst, ◌∙◌, append-nil, inl, inr}
-use Rattle.std.specs.Prelude.{IsFalse, IsTrue, if◌then◌else◌}
-use Rattle.std.specs.List.{list_all}
-use Rattle.std.proofs.lemmas.Bool.{and_from, and_parts, cases_Bool, false≢true}
-use Rattle.std.proofs.lemmas.List.{take_more}
-use Rattle.std.proofs.lemmas.List.Folds.{list_all_at}
-use Rattle.dcd_base.specs.declared.ids.HostId.{HostId}
-use Rattle.dcd_base.specs.declared.steps.Actor.{Actor}
-use Rattle.dcd_base.specs.declared.steps.LogId.{LogId}
-use Rattle.cci_codec.specs.declared.messages.Request.{Request}
-use Rattle.cci_codec.specs.declared.messages.Response.{Response}
-use Rattle.device_plain.specs.Devices.{Enters, Plain}
-use Rattle.event_log.specs.Logs.{records_in}
-use Rattle.journal_core.specs.Entries.{Each, effects, fits}
-use Rattle.journal_core.specs.declared.acts.Act.{Act}
-use Rattle.journal_core.specs.declared.acts.Reply.{Reply}
-use Rattle.journal_core.specs.declared.entries.Entry.{Entry}
-use Rattle.region_config.specs.Configurations.{Configuration}
-use Rattle.region_config.specs.Soundness.{IsSound}
-use Rattle.report.specs.script_codec.specs.Covering.{pass_of}
-use Rattle.report.specs.script_codec.specs.Scripts.{is_lane, is_sound_line}
-use Rattle.report.specs.script_codec.specs.declared.script_line.Line.{Line}
-use Rattle.device_plain.specs.device_rules.specs.Counts.{records_of}
-use Rattle.device_plain.specs.device_rules.specs.Legal.{Legal}
-use Rattle.device_plain.specs.device_rules.specs.Views.{view_of}
+use Rattle.std.proofs.lemmas.{Bool.and_from, Bool.and_parts, Bool.cases_Bool, Bool.false≢true, List.take_more, List.Folds.list_all_at}
+use Rattle.std.specs.{List.list_all, Prelude.IsFalse, Prelude.IsTrue, Prelude.if◌then◌else◌}
+use Rattle.dcd_base.specs.declared.{ids.HostId.HostId, steps.Actor.Actor, steps.LogId.LogId}
+use Rattle.cci_codec.specs.declared.messages.{Request.Request, Response.Response}
+use Rattle.device_plain.specs.{Devices.Enters, Devices.Plain, device_rules.specs.Counts.records_of, device_rules.specs.Legal.Legal, device_rules.specs.Views.view_of}
 use Rattle.device_plain.specs.isolation_laws.specs.Solo.{acts_for}
-use Rattle.host_driver.specs.Driving.{gives, reply_fault}
-use Rattle.host_driver.specs.Journals.{IsDrive, IsUnlined, driver_of, ends_with, entries_of_others, is_at_rest, is_fitting, line_of_others, lines_of_others}
-use Rattle.host_driver.specs.Running.{EndsSpelled, GoInTurns, HasAsked, HasGone, HasLine, HasLines}
-use Rattle.host_driver.specs.Standing.{Standing, first_standing, taking, took_fault}
-use Rattle.host_driver.proofs.Following.{Holding, all_hold, table_is}
-use Rattle.host_driver.proofs.Lines.{lines-push}
+use Rattle.event_log.specs.Logs.{records_in}
+use Rattle.journal_core.specs.{Entries.Each, Entries.effects, Entries.fits, declared.acts.Act.Act, declared.acts.Reply.Reply, declared.entries.Entry.Entry}
+use Rattle.region_config.specs.{Configurations.Configuration, Soundness.IsSound}
+use Rattle.report.specs.script_codec.specs.{Covering.pass_of, Scripts.is_lane, Scripts.is_sound_line, declared.script_line.Line.Line}
+use Rattle.host_driver.proofs.{Following.Holding, Following.all_hold, Following.table_is, Lines.lines-push}
 use Rattle.host_driver.proofs.Turns.{IsEntry, has_asked, has_no_fault, is_answered, other_goes, other_ran, then_busy}
+use Rattle.host_driver.specs.{Driving.gives, Driving.reply_fault, Running.EndsSpelled, Running.GoInTurns, Running.HasAsked, Running.HasGone, Running.HasLine, Running.HasLines}
+use Rattle.host_driver.specs.Standing.{Standing, first_standing, taking, took_fault}
+use Rattle.host_driver.specs.Journals.{IsDrive, IsUnlined, driver_of, ends_with, entries_of_others, is_at_rest, is_fitting, line_of_others, lines_of_others}
 
 -- what was entered is the entry behind the others
 entry_of : (old new : Plain) (pass line : ℕ) (actor : Actor) (act : Act) (reply : Reply) (x : Enters old new pass line actor act reply) → EndsSpelled new → IsEntry old new x.entry

@@ -1,60 +1,24 @@
 -- After every legal journal in which the host is driven, its driver and the device agree.
 use Rattle.std.proofs.Common.{◌≡◌, ◌⊎◌, ℕ, ◌<◌, true, false, List, [], ◌∷◌, ◌++◌, length, map, None, Ok, Err, inl, inr, refl, sym, ap, subst, ◌∙◌, append-nil, arith}
-use Rattle.std.specs.Prelude.{IsFalse, IsTrue, fold, if◌then◌else◌}
-use Rattle.std.specs.List.{AllByRecursion}
-use Rattle.std.proofs.lemmas.Bool.{cases_Bool, false≢true}
-use Rattle.std.proofs.lemmas.Grind.{flat_map-append}
-use Rattle.std.proofs.lemmas.List.{length-map}
-use Rattle.std.proofs.lemmas.List.Sums.{fold-append}
+use Rattle.std.proofs.lemmas.{Bool.cases_Bool, Bool.false≢true, Grind.flat_map-append, List.length-map, List.Sums.fold-append}
+use Rattle.std.specs.{List.AllByRecursion, Prelude.IsFalse, Prelude.IsTrue, Prelude.fold, Prelude.if◌then◌else◌, declared.result.Result.Result}
 use Rattle.dcd_codes.specs.declared.rules.Rule.{Rule}
-use Rattle.std.specs.declared.result.Result.{Result}
-use Rattle.dcd_base.specs.declared.capacity.Extent.{Extent}
-use Rattle.dcd_base.specs.declared.ids.HostId.{HostId}
-use Rattle.dcd_base.specs.declared.steps.Actor.{Actor}
-use Rattle.dcd_base.specs.declared.steps.LogId.{LogId}
-use Rattle.cci_codec.specs.declared.messages.Request.{Request}
-use Rattle.cci_codec.specs.declared.messages.Response.{Response}
+use Rattle.dcd_base.specs.declared.{capacity.Extent.Extent, ids.HostId.HostId, steps.Actor.Actor, steps.LogId.LogId}
+use Rattle.cci_codec.specs.declared.messages.{Request.Request, Response.Response}
 use Rattle.event_log.specs.Logs.{records_in}
 use Rattle.offer_core.specs.InOrder.{AreSome, SameAddresses}
 use Rattle.host_payloads.specs.declared.requests.HostRequest.{HostRequest}
-use Rattle.journal_core.specs.Entries.{effects}
-use Rattle.journal_core.specs.declared.acts.Act.{Act}
-use Rattle.journal_core.specs.declared.acts.Reply.{Reply}
-use Rattle.journal_core.specs.declared.entries.Entry.{Entry}
-use Rattle.journal_core.specs.declared.outcome.Effect.{Effect}
-use Rattle.region_config.specs.Configurations.{Configuration}
-use Rattle.region_config.specs.Soundness.{IsSound}
-use Rattle.device_plain.specs.device_rules.specs.Answers.{host_result_in, host_rule, reply_with}
-use Rattle.device_plain.specs.device_rules.specs.Legal.{Legal, Meets, right_answer}
-use Rattle.device_plain.specs.device_rules.specs.Logs.{log_of}
-use Rattle.device_plain.specs.device_rules.specs.Outcomes.{Outcome}
-use Rattle.device_plain.specs.device_rules.specs.Views.{View, view_after, view_of}
-use Rattle.device_plain.specs.device_rules.proofs.ViewSteps.{view_of-push}
-use Rattle.device_plain.specs.device_rules.specs.Pictures.{picture_of}
-use Rattle.device_plain.specs.device_rules.specs.Standing.{Sound}
-use Rattle.device_plain.specs.device_rules.proofs.InOrderResponses.{legal_allows}
-use Rattle.device_plain.specs.device_rules.proofs.LegalSound.{legal_is_sound}
-use Rattle.device_plain.specs.device_rules.proofs.LegalLogs.{legal_logs}
-use Rattle.device_plain.specs.device_rules.proofs.LogSteps.{IsSound as IsSoundLog}
-use Rattle.device_plain.specs.isolation_laws.specs.Solo.{changes_with, delivered, acts_for}
-use Rattle.device_plain.specs.isolation_laws.specs.declared.items.Item.{Item}
-use Rattle.device_plain.specs.isolation_laws.proofs.AllSee.{steps_alone}
-use Rattle.device_plain.specs.isolation_laws.proofs.BroughtItems.{actor_is}
-use Rattle.device_plain.specs.isolation_laws.proofs.OneItem.{BringsItems}
-use Rattle.device_plain.specs.isolation_laws.proofs.OwnSteps.{own_step}
-use Rattle.host_driver.specs.declared.due.Due.{Due}
-use Rattle.host_driver.specs.Driving.{Driven, bare, driven, gives, replied}
-use Rattle.host_driver.specs.Journals.{IsDrivenStep, driver_of, pair_of, pairs_of, refuses}
-use Rattle.host_driver.proofs.Answered.{beside_all, beside_none, oldest}
-use Rattle.host_driver.proofs.Heard.{given_is, taken_is}
-use Rattle.host_driver.proofs.Held.{all_same, extents_apart, none_same, offer_marked}
-use Rattle.host_driver.proofs.Midway.{Agrees, seen_in}
-use Rattle.host_driver.proofs.Others.{brought}
-use Rattle.host_driver.proofs.Own.{GoesOn, after, clear_asked, fault, page_asked, release_asked, response_asked}
-use Rattle.host_driver.specs.Running.{to_do}
-use Rattle.host_driver.specs.Spelling.{IsSpelled}
-use Rattle.host_driver.proofs.Released.{released}
-use Rattle.host_driver.proofs.Removals.{others_take}
+use Rattle.journal_core.specs.{Entries.effects, declared.acts.Act.Act, declared.acts.Reply.Reply, declared.entries.Entry.Entry, declared.outcome.Effect.Effect}
+use Rattle.region_config.specs.{Configurations.Configuration, Soundness.IsSound}
+use Rattle.device_plain.specs.device_rules.proofs.{InOrderResponses.legal_allows, LegalLogs.legal_logs, LegalSound.legal_is_sound, LogSteps.IsSound as IsSoundLog, ViewSteps.view_of-push}
+use Rattle.device_plain.specs.device_rules.specs.{Answers.host_result_in, Answers.host_rule, Answers.reply_with, Legal.Legal, Legal.Meets, Legal.right_answer, Logs.log_of, Outcomes.Outcome}
+use Rattle.device_plain.specs.device_rules.specs.{Pictures.picture_of, Standing.Sound, Views.View, Views.view_after, Views.view_of}
+use Rattle.device_plain.specs.isolation_laws.proofs.{AllSee.steps_alone, BroughtItems.actor_is, OneItem.BringsItems, OwnSteps.own_step}
+use Rattle.device_plain.specs.isolation_laws.specs.{Solo.changes_with, Solo.delivered, Solo.acts_for, declared.items.Item.Item}
+use Rattle.host_driver.proofs.{Answered.beside_all, Answered.beside_none, Answered.oldest, Heard.given_is, Heard.taken_is, Held.all_same, Held.extents_apart, Held.none_same, Held.offer_marked}
+use Rattle.host_driver.proofs.{Midway.Agrees, Midway.seen_in, Others.brought, Own.GoesOn, Own.after, Own.clear_asked, Own.fault, Own.page_asked, Own.release_asked, Own.response_asked}
+use Rattle.host_driver.{proofs.Released.released, proofs.Removals.others_take, specs.Driving.Driven, specs.Driving.bare, specs.Driving.driven, specs.Driving.gives, specs.Driving.replied}
+use Rattle.host_driver.specs.{Journals.IsDrivenStep, Journals.driver_of, Journals.pair_of, Journals.pairs_of, Journals.refuses, Running.to_do, Spelling.IsSpelled, declared.due.Due.Due}
 
 -- ---- a journal with one more entry
 

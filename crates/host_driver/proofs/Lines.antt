@@ -1,8 +1,6 @@
 -- The lines of the others, one more at a time.
 use Rattle.std.proofs.Common.{◌≡◌, ℕ, ◌+◌, List, [], ◌∷◌, ◌++◌, length, ap, ◌∙◌, append-nil, arith}
-use Rattle.std.specs.Prelude.{flat_map}
-use Rattle.std.specs.List.{enumerate_from}
-use Rattle.std.proofs.lemmas.Grind.{flat_map-append}
+use Rattle.std.{specs.Prelude.flat_map, specs.List.enumerate_from, proofs.lemmas.Grind.flat_map-append}
 use Rattle.dcd_base.specs.declared.ids.HostId.{HostId}
 use Rattle.report.specs.script_codec.specs.declared.script_line.Line.{Line}
 use Rattle.host_driver.specs.Journals.{line_of_others, lines_of_others}

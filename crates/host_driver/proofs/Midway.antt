@@ -1,25 +1,16 @@
 -- What a host has at the device and what its driver keeps, between any two steps.
 use Rattle.std.proofs.Common.{◌≡◌, inl, inr, ℕ, ◌+◌, ◌^◌, ◌<◌, ◌≤◌, Bool, true, false, List, [], ◌∷◌, ◌++◌, Some, None, length, map, refl, sym, ap, subst, ◌∙◌, append_assoc, append-nil, arith, length-append}
-use Rattle.std.specs.Prelude.{Option, if◌then◌else◌, find}
-use Rattle.std.specs.List.{AllByRecursion, list_any}
-use Rattle.std.proofs.lemmas.Bool.{cases_Bool, lt-ltb, or_from, or_parts}
-use Rattle.std.proofs.lemmas.List.{length-map, nil_from_length}
-use Rattle.std.proofs.lemmas.Option.{none-some, same_Some}
+use Rattle.std.proofs.lemmas.{Bool.cases_Bool, Bool.lt-ltb, Bool.or_from, Bool.or_parts, List.length-map, List.nil_from_length, Option.none-some, Option.same_Some}
+use Rattle.std.specs.{List.AllByRecursion, List.list_any, Prelude.Option, Prelude.if◌then◌else◌, Prelude.find}
 use Rattle.dcd_base.specs.declared.capacity.Extent.{Extent}
 use Rattle.event_log.specs.Logs.{records_in}
-use Rattle.event_records.specs.declared.events.Event.{Event}
-use Rattle.event_records.specs.declared.events.EventKind.{EventKind}
+use Rattle.event_records.specs.declared.events.{Event.Event, EventKind.EventKind}
 use Rattle.extent_list.specs.ExtentLists.{cut, has_range}
 use Rattle.host_payloads.specs.HostPayloads.{FitsListed}
-use Rattle.device_plain.specs.device_rules.specs.Views.{View}
-use Rattle.device_plain.specs.device_rules.proofs.ListSteps.{each-append}
-use Rattle.host_driver.specs.declared.due.Due.{Due}
+use Rattle.device_plain.specs.device_rules.{specs.Views.View, proofs.ListSteps.each-append}
+use Rattle.host_driver.{specs.declared.due.Due.Due, proofs.Passing.EachLies, proofs.Passing.without_all, specs.Running.due_weight, specs.Spelling.IsSpelled, proofs.ReadBack.spelled_fits}
 use Rattle.host_driver.specs.Driving.{Driven, answer_to, behind_page, cut_out, cut_within, due_behind, noted, treated, unless_due}
-use Rattle.host_driver.proofs.Passing.{EachLies, without_all}
 use Rattle.host_driver.proofs.Pending.{AreBehind, AreBeside, BehindBy, ends, forced, forced_in, gathers, left_of, offers_in}
-use Rattle.host_driver.specs.Running.{due_weight}
-use Rattle.host_driver.specs.Spelling.{IsSpelled}
-use Rattle.host_driver.proofs.ReadBack.{spelled_fits}
 
 -- ---- what a host has at the device
 

@@ -1,16 +1,11 @@
 -- Records that go into a log, and what they bring.
 use Rattle.std.proofs.Common.{◌≡◌, ℕ, ◌≤◌, true, false, not, List, [], ◌∷◌, ◌++◌, length, drop, refl, sym, ap, ◌∙◌, append_assoc, append-nil, arith, length-append}
 use Rattle.std.proofs.lemmas.List.{drop-append-le}
-use Rattle.dcd_base.specs.Words.{is_empty}
-use Rattle.dcd_base.specs.declared.capacity.Extent.{Extent}
-use Rattle.dcd_base.specs.declared.ids.HostId.{HostId}
+use Rattle.dcd_base.specs.{Words.is_empty, declared.capacity.Extent.Extent, declared.ids.HostId.HostId}
 use Rattle.event_log.specs.Logs.{Log, logged, next_handle, recorded, records_in}
-use Rattle.event_records.specs.declared.events.Event.{Event}
-use Rattle.event_records.specs.declared.events.EventKind.{EventKind}
-use Rattle.device_plain.specs.device_rules.specs.Outcomes.{no_extent, record_for, records_of_extents}
-use Rattle.device_plain.specs.device_rules.specs.Views.{View}
-use Rattle.host_driver.proofs.Brought.{AreForced, AreOffer, AreQuiet}
-use Rattle.host_driver.proofs.Pending.{AreBehind, forced_in, left_of, offers_in}
+use Rattle.event_records.specs.declared.events.{Event.Event, EventKind.EventKind}
+use Rattle.device_plain.specs.device_rules.specs.{Outcomes.no_extent, Outcomes.record_for, Outcomes.records_of_extents, Views.View}
+use Rattle.host_driver.proofs.{Brought.AreForced, Brought.AreOffer, Brought.AreQuiet, Pending.AreBehind, Pending.forced_in, Pending.left_of, Pending.offers_in}
 
 -- the records under the next handles
 abbrev pub numbered : Log → List Event → List Event

@@ -1,27 +1,19 @@
 -- A step of another actor: the driver's host and the device still agree.
 use Rattle.std.proofs.Common.{◌≡◌, ℕ, ◌≤◌, Bool, true, false, List, ◌+◌, [], ◌∷◌, ◌++◌, length, refl, sym, subst}
+use Rattle.std.{proofs.lemmas.Bool.false≢true, specs.List.list_all}
 use Rattle.std.specs.Prelude.{filter_map, flat_map, fold, if◌then◌else◌, nat_lt, ◌&&◌, ◌==◌}
-use Rattle.std.specs.List.{list_all}
-use Rattle.std.proofs.lemmas.Bool.{false≢true}
-use Rattle.dcd_base.specs.declared.capacity.Extent.{Extent}
-use Rattle.dcd_base.specs.declared.ids.HostId.{HostId}
+use Rattle.dcd_base.specs.declared.{capacity.Extent.Extent, ids.HostId.HostId}
 use Rattle.event_log.specs.Logs.{logged, records_in}
-use Rattle.event_records.specs.declared.events.Event.{Event}
-use Rattle.event_records.specs.declared.events.EventKind.{EventKind}
+use Rattle.event_records.specs.declared.events.{Event.Event, EventKind.EventKind}
 use Rattle.extent_list.specs.ExtentLists.{cut_all}
 use Rattle.journal_core.specs.declared.outcome.Effect.{Effect}
-use Rattle.region_config.specs.Configurations.{Configuration}
-use Rattle.region_config.specs.Granules.{is_supported, region_spec}
-use Rattle.device_plain.specs.device_rules.specs.Outcomes.{no_extent, record_for, records_of_extents}
-use Rattle.device_plain.specs.device_rules.specs.Views.{View}
-use Rattle.device_plain.specs.isolation_laws.specs.Solo.{block_item, delivered, item_of, solo_after, extents_recorded, with_log_records}
-use Rattle.device_plain.specs.isolation_laws.specs.declared.items.Item.{Item}
+use Rattle.region_config.specs.{Configurations.Configuration, Granules.is_supported, Granules.region_spec}
+use Rattle.device_plain.specs.device_rules.specs.{Outcomes.no_extent, Outcomes.record_for, Outcomes.records_of_extents, Views.View}
 use Rattle.device_plain.specs.isolation_laws.proofs.OneItem.{IsOneAtMost}
-use Rattle.host_driver.specs.Driving.{Driven}
-use Rattle.host_driver.proofs.Apart.{AreApart}
-use Rattle.host_driver.proofs.Brought.{CanGo, given, taken, told_quiet}
-use Rattle.host_driver.proofs.Midway.{Agrees, seen_in}
+use Rattle.device_plain.specs.isolation_laws.specs.{Solo.block_item, Solo.delivered, Solo.item_of, Solo.solo_after, Solo.extents_recorded, Solo.with_log_records, declared.items.Item.Item}
+use Rattle.host_driver.proofs.{Apart.AreApart, Brought.CanGo, Brought.given, Brought.taken, Brought.told_quiet, Midway.Agrees, Midway.seen_in}
 use Rattle.host_driver.proofs.Numbered.{are_forced, are_offer, are_quiet, block_quiet, logged_records, numbered}
+use Rattle.host_driver.specs.Driving.{Driven}
 
 -- items that are block sizes
 abbrev is_block : Item → Bool

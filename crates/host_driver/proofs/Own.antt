@@ -1,52 +1,30 @@
 -- The driver's own commands: what each replies and changes.
 use Rattle.std.proofs.Common.{◌≡◌, ℕ, ◌<◌, ◌≤◌, Bool, true, false, not, ◌&&◌, ◌==◌, List, [], ◌∷◌, ◌++◌, Option, Some, None, Ok, Err, length, map, take, drop, refl, sym, ap, subst, ◌∙◌, arith, length-append}
-use Rattle.std.specs.Prelude.{if◌then◌else◌, nat_lt, option_map}
-use Rattle.std.specs.List.{AllByRecursion}
-use Rattle.std.specs.declared.result.Result.{Result}
-use Rattle.std.proofs.lemmas.Bool.{eq-eqb, ne_eqb}
-use Rattle.std.proofs.lemmas.List.{drop-drop, length-drop, length-map, length-take, nil_from_length, take_all}
-use Rattle.dcd_base.specs.declared.capacity.Extent.{Extent}
-use Rattle.dcd_base.specs.Words.{is_empty}
-use Rattle.dcd_base.specs.declared.ids.HostId.{HostId}
-use Rattle.dcd_base.specs.declared.steps.LogId.{LogId}
-use Rattle.dcd_codes.specs.Rules.{code_of, number_of}
-use Rattle.dcd_codes.specs.declared.rules.Rule.{Rule}
+use Rattle.std.proofs.lemmas.{Bool.eq-eqb, Bool.ne_eqb, List.drop-drop, List.length-drop, List.length-map, List.length-take, List.nil_from_length, List.take_all}
+use Rattle.std.specs.{List.AllByRecursion, Prelude.if◌then◌else◌, Prelude.nat_lt, Prelude.option_map, declared.result.Result.Result}
+use Rattle.dcd_base.specs.{declared.capacity.Extent.Extent, Words.is_empty, declared.ids.HostId.HostId, declared.steps.LogId.LogId, EventCommands.FitsHandle}
+use Rattle.dcd_codes.specs.{Rules.code_of, Rules.number_of, declared.rules.Rule.Rule}
 use Rattle.cci_codec.specs.declared.messages.Response.{Response}
-use Rattle.event_log.specs.LogStates.{clear_fault}
-use Rattle.event_log.specs.Logs.{cleared_of, records_in}
+use Rattle.event_log.specs.{LogStates.clear_fault, Logs.cleared_of, Logs.records_in}
 use Rattle.event_records.specs.declared.events.Event.{Event}
 use Rattle.extent_list.specs.ExtentLists.{cut_all, marked}
-use Rattle.dcd_base.specs.EventCommands.{FitsHandle}
-use Rattle.host_payloads.specs.HostPayloads.{FitsListed, host_opcode}
-use Rattle.host_payloads.specs.declared.requests.HostRequest.{HostRequest}
-use Rattle.journal_core.specs.declared.acts.Reply.{Reply}
-use Rattle.journal_core.specs.declared.outcome.Effect.{Effect}
-use Rattle.journal_core.specs.declared.outcome.HeldKind.{HeldKind}
+use Rattle.host_payloads.specs.{HostPayloads.FitsListed, HostPayloads.host_opcode, declared.requests.HostRequest.HostRequest}
+use Rattle.journal_core.specs.declared.{acts.Reply.Reply, outcome.Effect.Effect, outcome.HeldKind.HeldKind}
 use Rattle.media_map.specs.Places.{run_of}
 use Rattle.region_config.specs.Configurations.{Configuration}
+use Rattle.device_plain.specs.device_rules.proofs.ListSteps.{each-front, each-map}
 use Rattle.device_plain.specs.device_rules.specs.Answers.{dropped, host_outcome, host_result, host_result_in, host_rule, reply_with, unless}
 use Rattle.device_plain.specs.device_rules.specs.EventCommands.{clear_changes, cleared, events_reply, rule_of}
-use Rattle.device_plain.specs.device_rules.specs.Hosts.{accepted_after, held_after, offers_after}
-use Rattle.device_plain.specs.device_rules.specs.Logs.{log_after}
-use Rattle.device_plain.specs.device_rules.specs.Outcomes.{Outcome}
-use Rattle.device_plain.specs.device_rules.specs.ReleaseOutcomes.{give_back_changes, leaves}
-use Rattle.device_plain.specs.device_rules.specs.ResponseOutcomes.{respond_changes, unhold}
-use Rattle.device_plain.specs.device_rules.specs.Views.{View, view_after}
-use Rattle.device_plain.specs.device_rules.proofs.ListSteps.{each-front, each-map}
-use Rattle.device_plain.specs.isolation_laws.specs.Solo.{changes_with}
-use Rattle.device_plain.specs.isolation_laws.proofs.RemovalViews.{IsOwnRun}
-use Rattle.host_driver.specs.declared.due.Due.{Due}
-use Rattle.host_driver.specs.Driving.{Driven, answered_by, asked_by, bare, cut_all_out, due_fault, given_by, gives, gone_on, is_refusal, driver_message, replied, reply_fault, taken_by, with_page}
-use Rattle.host_driver.specs.Journals.{refuses}
-use Rattle.host_driver.specs.declared.faults.DriverFault.{DriverFault}
-use Rattle.host_driver.proofs.Answered.{CanGive, cleared_count, cleared_front, each-take, empty_is, handles_some, not_page, offer_answered, oldest, page_cleared, page_read, release_done, release_refused, some_is}
+use Rattle.device_plain.specs.device_rules.specs.{Hosts.accepted_after, Hosts.held_after, Hosts.offers_after, Logs.log_after, Outcomes.Outcome}
+use Rattle.device_plain.specs.device_rules.specs.{ReleaseOutcomes.give_back_changes, ReleaseOutcomes.leaves, ResponseOutcomes.respond_changes, ResponseOutcomes.unhold, Views.View, Views.view_after}
+use Rattle.device_plain.specs.isolation_laws.{proofs.RemovalViews.IsOwnRun, specs.Solo.changes_with}
 use Rattle.host_driver.proofs.Heard.{Hears, clear_heard, page_heard, release_heard, response_heard}
 use Rattle.host_driver.proofs.Midway.{Agrees, Seen, handles_of, seen_in, treated-idle, treated-phase}
-use Rattle.host_driver.proofs.OwnEffects.{cut_bare, cuts, over_leaves, over_takes, refused_code}
-use Rattle.host_driver.proofs.Pending.{AreBeside, forced_in, offers_in}
-use Rattle.host_driver.specs.Running.{due_weight, to_do}
-use Rattle.host_driver.specs.Spelling.{IsSpelled}
-use Rattle.host_driver.proofs.ReadBack.{ReadsPage, page_back, spelled_handle}
+use Rattle.host_driver.proofs.{OwnEffects.cut_bare, OwnEffects.cuts, OwnEffects.over_leaves, OwnEffects.over_takes, OwnEffects.refused_code, Pending.AreBeside, Pending.forced_in, Pending.offers_in}
+use Rattle.host_driver.{proofs.ReadBack.ReadsPage, proofs.ReadBack.page_back, proofs.ReadBack.spelled_handle, specs.Journals.refuses, specs.Running.due_weight, specs.Running.to_do}
+use Rattle.host_driver.specs.{Spelling.IsSpelled, declared.due.Due.Due, declared.faults.DriverFault.DriverFault}
+use Rattle.host_driver.specs.Driving.{Driven, answered_by, asked_by, bare, cut_all_out, due_fault, given_by, gives, gone_on, is_refusal, driver_message, replied, reply_fault, taken_by, with_page}
+use Rattle.host_driver.proofs.Answered.{CanGive, cleared_count, cleared_front, each-take, empty_is, handles_some, not_page, offer_answered, oldest, page_cleared, page_read, release_done, release_refused, some_is}
 
 -- handles of the records in front can be cleared
 clear_front : (done rest : List Event) → clear_fault (handles_of done) (done ++ rest) ≡ None

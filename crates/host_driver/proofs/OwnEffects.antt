@@ -1,20 +1,13 @@
 -- What takes and leaves do to a host's view, and the codes of refusals.
 use Rattle.std.proofs.Common.{◌≡◌, ◌==◌, false, List, [], ◌∷◌, map, refl, ap, ◌∙◌}
-use Rattle.std.specs.Prelude.{fold, if◌then◌else◌}
-use Rattle.std.specs.List.{AllByRecursion}
-use Rattle.std.proofs.lemmas.Bool.{eq-eqb}
-use Rattle.dcd_base.specs.declared.capacity.Extent.{Extent}
-use Rattle.dcd_base.specs.declared.ids.HostId.{HostId}
-use Rattle.dcd_base.specs.declared.media.Run.{Run}
-use Rattle.dcd_codes.specs.Rules.{code_of, number_of}
-use Rattle.dcd_codes.specs.declared.rules.Rule.{Rule}
+use Rattle.std.{specs.Prelude.fold, specs.Prelude.if◌then◌else◌, specs.List.AllByRecursion, proofs.lemmas.Bool.eq-eqb}
+use Rattle.dcd_base.specs.declared.{capacity.Extent.Extent, ids.HostId.HostId, media.Run.Run}
+use Rattle.dcd_codes.specs.{Rules.code_of, Rules.number_of, declared.rules.Rule.Rule}
 use Rattle.extent_list.specs.ExtentLists.{cut, cut_all}
 use Rattle.journal_core.specs.declared.outcome.Effect.{Effect}
 use Rattle.media_map.specs.Places.{run_of}
 use Rattle.region_config.specs.Configurations.{Configuration}
-use Rattle.device_plain.specs.device_rules.specs.Hosts.{accepted_after}
-use Rattle.device_plain.specs.device_rules.specs.ReleaseOutcomes.{leaves}
-use Rattle.device_plain.specs.isolation_laws.proofs.RemovalViews.{IsOwnRun}
+use Rattle.device_plain.specs.{device_rules.specs.Hosts.accepted_after, device_rules.specs.ReleaseOutcomes.leaves, isolation_laws.proofs.RemovalViews.IsOwnRun}
 use Rattle.host_driver.specs.Driving.{bare}
 
 -- what minds no Take stays

@@ -1,7 +1,6 @@
 -- What passes removals that are still to be treated: a release, and an acceptance.
 use Rattle.std.proofs.Common.{refl, ◌≡◌, ◌∙◌, sym, ap, subst, inl, inr, ℕ, ◌<◌, true, List, [], ◌∷◌, ◌++◌}
-use Rattle.std.specs.Prelude.{fold}
-use Rattle.std.specs.List.{list_any, AllByRecursion}
+use Rattle.std.specs.{Prelude.fold, List.list_any, List.AllByRecursion}
 use Rattle.dcd_base.specs.declared.capacity.Extent.{Extent}
 use Rattle.extent_list.specs.ExtentLists.{cut, has_range}
 use Rattle.host_driver.proofs.Exchanging.{Beside, cut_in_front, cuts_beside, stays_before, stays_in}

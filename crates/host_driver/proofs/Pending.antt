@@ -1,10 +1,8 @@
 -- The records that a driver has not treated yet: the offers, the removals, and what stands before what.
 use Rattle.std.proofs.Common.{◌≡◌, Bool, true, false, not, List, [], ◌∷◌, ◌++◌, refl, sym, ap, subst, ◌∙◌, append_assoc, append-nil}
-use Rattle.std.specs.Prelude.{fold, flat_map, if◌then◌else◌}
-use Rattle.std.specs.List.{AllByRecursion}
+use Rattle.std.specs.{Prelude.fold, Prelude.flat_map, Prelude.if◌then◌else◌, List.AllByRecursion}
 use Rattle.dcd_base.specs.declared.capacity.Extent.{Extent}
-use Rattle.event_records.specs.declared.events.Event.{Event}
-use Rattle.event_records.specs.declared.events.EventKind.{EventKind}
+use Rattle.event_records.specs.declared.events.{Event.Event, EventKind.EventKind}
 use Rattle.device_plain.specs.device_rules.proofs.ListSteps.{each-back, each-front}
 use Rattle.host_driver.proofs.Exchanging.{Beside}
 

@@ -1,22 +1,14 @@
 -- A page that the device makes of records is read as those records.
 use Rattle.std.proofs.Common.{◌≡◌, ℕ, ◌+◌, ◌*◌, ◌^◌, ◌<◌, Bool, List, [], ◌∷◌, ◌++◌, length, map, flat_map, take, drop, Some, None, refl, sym, ap, subst, ◌∙◌, arith, length-append}
+use Rattle.std.{proofs.lemmas.Bool.eq-eqb, proofs.lemmas.Bool.le-ltb, proofs.lemmas.List.drop_at, proofs.lemmas.List.take_at, proofs.lemmas.Nat.from_le_bytes-to_le_bytes_2, specs.List.AllByRecursion}
 use Rattle.std.specs.Prelude.{if◌then◌else◌}
-use Rattle.std.proofs.lemmas.Bool.{eq-eqb, le-ltb}
-use Rattle.std.specs.List.{AllByRecursion}
-use Rattle.std.proofs.lemmas.List.{drop_at, take_at}
-use Rattle.std.proofs.lemmas.Nat.{from_le_bytes-to_le_bytes_2}
-use Rattle.dcd_base.specs.declared.capacity.Extent.{Extent}
-use Rattle.event_records.specs.Records.{WritesRecord, end_bytes, head_bytes, record_bytes, record_fault}
-use Rattle.event_records.specs.declared.events.Event.{Event}
+use Rattle.dcd_base.specs.{declared.capacity.Extent.Extent, Extents.extent_bytes, Layouts.pieces}
 use Rattle.event_records.proofs.Records.{record_in_parts, record_read, record_spelled}
-use Rattle.dcd_base.specs.Extents.{extent_bytes}
-use Rattle.dcd_base.specs.Layouts.{pieces}
-use Rattle.host_payloads.specs.HostPayloads.{FitsListed, events_head, events_payload}
-use Rattle.host_payloads.proofs.Written.{events_spelled}
-use Rattle.host_driver.specs.Pages.{bad_record, event_in, events_in, page_fault, record_count, record_pieces, records_length}
-use Rattle.host_driver.specs.declared.faults.DriverFault.{DriverFault}
-use Rattle.host_driver.specs.Spelling.{IsSpelled}
+use Rattle.event_records.specs.{Records.WritesRecord, Records.end_bytes, Records.head_bytes, Records.record_bytes, Records.record_fault, declared.events.Event.Event}
+use Rattle.host_payloads.{specs.HostPayloads.FitsListed, specs.HostPayloads.events_head, specs.HostPayloads.events_payload, proofs.Written.events_spelled}
 use Rattle.host_driver.proofs.Events.{event_is}
+use Rattle.host_driver.specs.{Pages.bad_record, Pages.event_in, Pages.events_in, Pages.page_fault, Pages.record_count, Pages.record_pieces, Pages.records_length, Spelling.IsSpelled}
+use Rattle.host_driver.specs.declared.faults.DriverFault.{DriverFault}
 
 -- so its extent can be listed
 pub spelled_fits : (e : Event) → IsSpelled e → FitsListed e.extent

@@ -1,33 +1,18 @@
 -- What a release that breaks no rule gives back: it lies in the accepted extents and is made of granules.
 use Rattle.std.proofs.Common.{◌≡◌, ℕ, ◌+◌, ◌^◌, ◌<◌, true, false, List, [], ◌∷◌, map, None, sym, subst, ◌∙◌, arith}
 use Rattle.std.specs.List.{AllByRecursion}
-use Rattle.dcd_base.specs.Words.{◌or◌}
-use Rattle.dcd_base.specs.declared.capacity.Extent.{Extent}
-use Rattle.dcd_base.specs.declared.ids.HostId.{HostId}
+use Rattle.dcd_base.specs.{Words.◌or◌, declared.capacity.Extent.Extent, declared.ids.HostId.HostId}
 use Rattle.dcd_codes.specs.Rules.{each_in}
-use Rattle.extent_list.specs.ExtentLists.{count_in, is_in}
+use Rattle.extent_list.specs.{ExtentLists.count_in, ExtentLists.is_in, Listing.incomplete, Listing.too_many_extents, Listing.too_many_listed}
 use Rattle.host_payloads.specs.declared.requests.HostRequest.{HostRequest}
-use Rattle.extent_list.specs.Listing.{incomplete, too_many_extents, too_many_listed}
 use Rattle.media_map.specs.Places.{region_at}
-use Rattle.region_config.proofs.Faultless.{region_ends}
-use Rattle.region_config.specs.Configurations.{Configuration}
-use Rattle.region_config.specs.Granules.{with_blocks}
-use Rattle.region_config.specs.Soundness.{IsSound}
+use Rattle.region_config.{proofs.Faultless.region_ends, specs.Configurations.Configuration, specs.Granules.with_blocks, specs.Soundness.IsSound}
 use Rattle.release_core.specs.Leaving.{count_after}
-use Rattle.device_plain.specs.device_rules.specs.Answers.{host_rule}
-use Rattle.device_plain.specs.device_rules.specs.Views.{View}
-use Rattle.device_plain.specs.device_rules.proofs.ListSteps.{each-change}
-use Rattle.device_plain.specs.device_rules.specs.Pictures.{Picture}
-use Rattle.device_plain.specs.device_rules.specs.Standing.{IsMade, Stands}
-use Rattle.device_plain.specs.device_rules.proofs.Going.{IsGoing}
-use Rattle.device_plain.specs.device_rules.proofs.Holding.{present_whole}
-use Rattle.device_plain.specs.device_rules.proofs.Homes.{made_bytes, made_starts}
-use Rattle.device_plain.specs.device_rules.proofs.LeftStanding.{going_of, going_rule}
-use Rattle.selection.proofs.Prescribed.{neither}
+use Rattle.device_plain.specs.device_rules.proofs.{Going.IsGoing, Holding.present_whole, Homes.made_bytes, Homes.made_starts, LeftStanding.going_of, LeftStanding.going_rule, ListSteps.each-change}
+use Rattle.device_plain.specs.device_rules.specs.{Answers.host_rule, Pictures.Picture, Standing.IsMade, Standing.Stands, Views.View}
 use Rattle.device_plain.specs.isolation_laws.proofs.RemovalViews.{IsOwnRun}
-use Rattle.host_driver.specs.Driving.{bare}
-use Rattle.host_driver.proofs.Answered.{CanGive}
-use Rattle.host_driver.proofs.Midway.{seen_in}
+use Rattle.selection.proofs.Prescribed.{neither}
+use Rattle.host_driver.{specs.Driving.bare, proofs.Answered.CanGive, proofs.Midway.seen_in}
 
 -- what holds of what is listed holds of what was meant
 each-listed : (P : Extent → Type 0) (xs : List Extent) → AllByRecursion P (map bare xs) → AllByRecursion (λ x. P (bare x)) xs

@@ -1,69 +1,33 @@
 -- What the manager takes from a host by force can be taken: it lies in the accepted extents, and no two of it share an address.
 use Rattle.std.proofs.Common.{◌≡◌, ℕ, ◌+◌, ◌^◌, ◌<◌, ◌≤◌, Bool, true, false, List, [], ◌∷◌, length, map, Option, Some, None, Ok, Err, inl, inr, refl, sym, ap, subst, ◌∙◌, arith, ltb}
-use Rattle.std.specs.Prelude.{filter_map, if◌then◌else◌, ◌==◌}
-use Rattle.std.specs.List.{AllByRecursion, list_all}
-use Rattle.std.specs.declared.result.Result.{Result}
 use Rattle.std.proofs.lemmas.Bool.{and_from, cases_eq, cases_lt, eq-eqb, false≢true, lt-ltb}
-use Rattle.dcd_base.specs.Words.{◌or◌, same_tag}
-use Rattle.dcd_base.specs.declared.capacity.Extent.{Extent}
-use Rattle.dcd_base.specs.declared.capacity.Tag.{Tag}
-use Rattle.dcd_base.specs.declared.ids.HostId.{HostId}
-use Rattle.dcd_base.specs.declared.steps.Actor.{Actor}
-use Rattle.dcd_base.specs.declared.steps.LogId.{LogId}
-use Rattle.dcd_codes.specs.Rules.{each_in}
-use Rattle.dcd_codes.specs.declared.rules.Rule.{Rule}
+use Rattle.std.specs.{List.AllByRecursion, List.list_all, Prelude.filter_map, Prelude.if◌then◌else◌, Prelude.◌==◌, declared.result.Result.Result}
+use Rattle.dcd_base.specs.{Words.◌or◌, Words.same_tag, declared.capacity.Extent.Extent, declared.capacity.Tag.Tag, declared.faults.PayloadFault.PayloadFault as ManagerFault}
+use Rattle.dcd_base.specs.declared.{ids.HostId.HostId, steps.Actor.Actor, steps.LogId.LogId}
+use Rattle.dcd_codes.specs.{Rules.each_in, declared.rules.Rule.Rule}
 use Rattle.event_log.specs.Logs.{room_in}
 use Rattle.event_records.specs.declared.events.EventKind.{EventKind}
-use Rattle.extent_list.specs.ExtentLists.{count_in, is_in, marked, overlaps}
-use Rattle.dcd_base.specs.declared.faults.PayloadFault.{PayloadFault as ManagerFault}
-use Rattle.fm_payloads.specs.ManagerPayloads.{manager_request}
-use Rattle.fm_payloads.specs.declared.requests.FmRequest.{FmRequest}
-use Rattle.journal_core.specs.Entries.{effects}
-use Rattle.journal_core.specs.declared.acts.Act.{Act}
-use Rattle.journal_core.specs.declared.entries.Entry.{Entry}
-use Rattle.journal_core.specs.declared.outcome.Effect.{Effect}
-use Rattle.extent_list.specs.Listing.{incomplete, too_many_extents}
+use Rattle.extent_list.specs.{ExtentLists.count_in, ExtentLists.is_in, ExtentLists.marked, ExtentLists.overlaps, Listing.incomplete, Listing.too_many_extents}
+use Rattle.fm_payloads.specs.{ManagerPayloads.manager_request, declared.requests.FmRequest.FmRequest}
+use Rattle.journal_core.specs.{Entries.effects, declared.acts.Act.Act, declared.entries.Entry.Entry, declared.outcome.Effect.Effect}
 use Rattle.media_map.specs.Places.{region_at}
-use Rattle.region_config.proofs.Faultless.{region_ends}
-use Rattle.region_config.specs.Configurations.{Configuration}
-use Rattle.region_config.specs.Granules.{with_blocks}
-use Rattle.region_config.specs.Soundness.{IsSound}
-use Rattle.release_core.specs.Leaving.{count_after}
-use Rattle.release_core.specs.Removals.{by_tag_rule, prescribed_removal_rule, extents_of_tag}
+use Rattle.region_config.{proofs.Faultless.region_ends, specs.Configurations.Configuration, specs.Granules.with_blocks, specs.Soundness.IsSound}
+use Rattle.release_core.specs.{Leaving.count_after, Removals.by_tag_rule, Removals.prescribed_removal_rule, Removals.extents_of_tag}
+use Rattle.device_plain.specs.device_rules.proofs.{AllLeave.Behind, EffectKinds.clear_passes, EffectKinds.reference_passes, EffectKinds.removals_pass, EffectKinds.zeroes_pass}
+use Rattle.device_plain.specs.device_rules.proofs.{Going.IsGoing, Going.some_going, LeftStanding.going_of, LeftStanding.going_rule, ListSteps.each-both, ListSteps.each-change, ListSteps.each-map}
+use Rattle.device_plain.specs.device_rules.proofs.{LogHistories.leaves_logs, LogOutcomes.last_of, LogOutcomes.room_for, LogSteps.IsSound as IsSoundLog, OneLeave.loose}
+use Rattle.device_plain.specs.device_rules.proofs.{ViewOthers.add-leaves, ViewOthers.answer-leaves, ViewOthers.remove-leaves, ViewsLeft.leaves_view, ViewsLeft.outcome-leaves}
 use Rattle.device_plain.specs.device_rules.specs.Adding.{add_outcome, add_rule, offered}
 use Rattle.device_plain.specs.device_rules.specs.Answers.{effects_with, manager_outcome, manager_result, manager_rule, scrubbed, unless, zeroes}
-use Rattle.device_plain.specs.device_rules.specs.EventCommands.{clear_outcome}
-use Rattle.device_plain.specs.device_rules.specs.Legal.{Meets, right_answer}
-use Rattle.device_plain.specs.device_rules.specs.Logs.{log_of}
-use Rattle.device_plain.specs.device_rules.specs.Outcomes.{Outcome, effects_of, log_full}
-use Rattle.device_plain.specs.device_rules.specs.ReleaseOutcomes.{is_cleaning, is_forced, policy_in, remove_outcome, remove_rule, removed, removals}
-use Rattle.device_plain.specs.device_rules.specs.Settings.{set_outcome}
-use Rattle.device_plain.specs.device_rules.specs.TagCommands.{add_reference_outcome, remove_reference_outcome}
-use Rattle.device_plain.specs.device_rules.specs.Tags.{is_referenced}
-use Rattle.device_plain.specs.device_rules.specs.Views.{View, view_after, view_of}
-use Rattle.device_plain.specs.device_rules.proofs.EffectKinds.{clear_passes, reference_passes, removals_pass, zeroes_pass}
-use Rattle.device_plain.specs.device_rules.proofs.ListSteps.{each-both, each-change, each-map}
+use Rattle.device_plain.specs.device_rules.specs.{EventCommands.clear_outcome, Legal.Meets, Legal.right_answer, Logs.log_of, Outcomes.Outcome, Outcomes.effects_of, Outcomes.log_full}
 use Rattle.device_plain.specs.device_rules.specs.Pictures.{Picture, picture_of}
-use Rattle.device_plain.specs.device_rules.specs.Standing.{IsMade, Sound}
-use Rattle.device_plain.specs.device_rules.proofs.AllLeave.{Behind}
-use Rattle.device_plain.specs.device_rules.proofs.Going.{IsGoing, some_going}
-use Rattle.device_plain.specs.device_rules.proofs.LeftStanding.{going_of, going_rule}
-use Rattle.device_plain.specs.device_rules.proofs.OneLeave.{loose}
+use Rattle.device_plain.specs.device_rules.specs.ReleaseOutcomes.{is_cleaning, is_forced, policy_in, remove_outcome, remove_rule, removed, removals}
+use Rattle.device_plain.specs.device_rules.specs.{Settings.set_outcome, Standing.IsMade, Standing.Sound, TagCommands.add_reference_outcome, TagCommands.remove_reference_outcome, Tags.is_referenced}
+use Rattle.device_plain.specs.{device_rules.specs.Views.View, device_rules.specs.Views.view_after, device_rules.specs.Views.view_of, isolation_laws.proofs.OwnRecords.told_log_records}
+use Rattle.device_plain.specs.isolation_laws.proofs.{RecordItems.blocks_outcome, RecordItems.told_passing, RemovalViews.removing}
+use Rattle.device_plain.specs.isolation_laws.specs.{Solo.block_item, Solo.acts_for, Solo.extents_recorded, declared.items.Item.Item}
 use Rattle.selection.proofs.Prescribed.{neither}
-use Rattle.device_plain.specs.device_rules.proofs.LogHistories.{leaves_logs}
-use Rattle.device_plain.specs.device_rules.proofs.LogOutcomes.{last_of, room_for}
-use Rattle.device_plain.specs.device_rules.proofs.LogSteps.{IsSound as IsSoundLog}
-use Rattle.device_plain.specs.device_rules.proofs.ViewOthers.{add-leaves, answer-leaves, remove-leaves}
-use Rattle.device_plain.specs.device_rules.proofs.ViewsLeft.{leaves_view, outcome-leaves}
-use Rattle.device_plain.specs.isolation_laws.specs.Solo.{block_item, acts_for, extents_recorded}
-use Rattle.device_plain.specs.isolation_laws.specs.declared.items.Item.{Item}
-use Rattle.device_plain.specs.isolation_laws.proofs.OwnRecords.{told_log_records}
-use Rattle.device_plain.specs.isolation_laws.proofs.RecordItems.{blocks_outcome, told_passing}
-use Rattle.device_plain.specs.isolation_laws.proofs.RemovalViews.{removing}
-use Rattle.host_driver.proofs.Brought.{CanGo}
-use Rattle.host_driver.proofs.Exchanging.{Beside, stays_in}
-use Rattle.host_driver.proofs.Midway.{seen_in}
-use Rattle.host_driver.proofs.Passing.{EachLies, cut_by}
+use Rattle.host_driver.proofs.{Brought.CanGo, Exchanging.Beside, Exchanging.stays_in, Midway.seen_in, Passing.EachLies, Passing.cut_by}
 
 -- ---- extents that may leave
 

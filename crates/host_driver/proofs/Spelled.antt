@@ -1,22 +1,12 @@
 -- Records that go into logs are spelled, one effect and one entry more at a time.
 use Rattle.std.proofs.Common.{◌≡◌, ℕ, ◌+◌, ◌<◌, Bool, true, false, List, [], ◌∷◌, ◌++◌, length, get_or, take, refl, sym, ap, subst, ◌∙◌}
-use Rattle.std.specs.Prelude.{IsTrue, if◌then◌else◌}
-use Rattle.std.specs.List.{AllByRecursion}
-use Rattle.std.proofs.lemmas.Bool.{false≢true}
-use Rattle.std.proofs.lemmas.List.{take_more}
+use Rattle.std.{specs.Prelude.IsTrue, specs.Prelude.if◌then◌else◌, specs.List.AllByRecursion, proofs.lemmas.Bool.false≢true, proofs.lemmas.List.take_more}
 use Rattle.dcd_base.specs.declared.steps.Actor.{Actor}
-use Rattle.journal_core.specs.Entries.{effects, fits, is_control}
-use Rattle.device_plain.specs.kept_journal.specs.Tokens.{without_extents}
-use Rattle.journal_core.specs.declared.acts.Act.{Act}
-use Rattle.journal_core.specs.declared.entries.Entry.{Entry}
-use Rattle.journal_core.specs.declared.outcome.Effect.{Effect}
-use Rattle.journal_core.proofs.EachSteps.{EachFrom-at}
-use Rattle.journal_core.proofs.JournalSteps.{effects-push}
+use Rattle.journal_core.{proofs.EachSteps.EachFrom-at, proofs.JournalSteps.effects-push, specs.Entries.effects, specs.Entries.fits, specs.Entries.is_control, specs.declared.acts.Act.Act}
+use Rattle.journal_core.specs.declared.{entries.Entry.Entry, outcome.Effect.Effect}
+use Rattle.device_plain.{proofs.Numbered.commands-push, specs.Numbering.commands_of, specs.device_rules.proofs.ListSteps.each-append}
+use Rattle.device_plain.specs.{device_rules.specs.Legal.Legal, device_rules.specs.Legal.Meets, device_rules.specs.Legal.right_answer, kept_journal.specs.Tokens.without_extents}
 use Rattle.region_config.specs.Configurations.{Configuration}
-use Rattle.device_plain.specs.device_rules.specs.Legal.{Legal, Meets, right_answer}
-use Rattle.device_plain.specs.device_rules.proofs.ListSteps.{each-append}
-use Rattle.device_plain.specs.Numbering.{commands_of}
-use Rattle.device_plain.proofs.Numbered.{commands-push}
 use Rattle.host_driver.specs.Spelling.{AreSpelled, AreSpelledIn, IsSpelledIn}
 
 -- ---- one more

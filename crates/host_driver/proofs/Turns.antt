@@ -1,34 +1,18 @@
 -- A step of the driver, and a step of another, in turns.
 use Rattle.std.proofs.Common.{◌≡◌, ℕ, ◌<◌, Bool, true, false, not, ◌&&◌, ◌||◌, List, [], ◌∷◌, ◌++◌, None, refl, sym, ap, subst, ◌∙◌, append-nil}
+use Rattle.std.proofs.lemmas.{Bool.eq-eqb, Bool.false≢true, Grind.flat_map-append}
 use Rattle.std.specs.Prelude.{IsFalse, IsTrue, fold, if◌then◌else◌}
-use Rattle.std.proofs.lemmas.Bool.{eq-eqb, false≢true}
-use Rattle.std.proofs.lemmas.Grind.{flat_map-append}
-use Rattle.dcd_base.specs.Words.{is_empty}
-use Rattle.dcd_base.specs.declared.ids.HostId.{HostId}
-use Rattle.dcd_base.specs.declared.steps.Actor.{Actor}
-use Rattle.dcd_base.specs.declared.steps.LogId.{LogId}
+use Rattle.dcd_base.specs.{Words.is_empty, declared.ids.HostId.HostId, declared.steps.Actor.Actor, declared.steps.LogId.LogId}
 use Rattle.cci_codec.specs.declared.messages.Response.{Response}
-use Rattle.device_plain.specs.Devices.{Plain}
-use Rattle.journal_core.specs.Entries.{Each, effects}
-use Rattle.journal_core.specs.declared.acts.Act.{Act}
-use Rattle.journal_core.specs.declared.acts.Reply.{Reply}
+use Rattle.device_plain.specs.{Devices.Plain, device_rules.specs.Legal.Legal, device_rules.specs.Legal.Meets, device_rules.specs.Views.view_of, isolation_laws.specs.Solo.acts_for}
+use Rattle.journal_core.{proofs.EachSteps.Each-push, proofs.EachSteps.EachFrom-at, specs.Entries.Each, specs.Entries.effects, specs.declared.acts.Act.Act, specs.declared.acts.Reply.Reply}
 use Rattle.journal_core.specs.declared.entries.Entry.{Entry}
-use Rattle.journal_core.proofs.EachSteps.{Each-push, EachFrom-at}
-use Rattle.region_config.specs.Configurations.{Configuration}
-use Rattle.region_config.specs.Soundness.{IsSound}
+use Rattle.region_config.specs.{Configurations.Configuration, Soundness.IsSound}
 use Rattle.report.specs.script_codec.specs.Covering.{pass_of}
-use Rattle.device_plain.specs.device_rules.specs.Legal.{Legal, Meets}
-use Rattle.device_plain.specs.device_rules.specs.Views.{view_of}
-use Rattle.device_plain.specs.isolation_laws.specs.Solo.{acts_for}
-use Rattle.host_driver.specs.Driving.{gives, replied, reply_fault}
+use Rattle.host_driver.proofs.{Following.Holding, Following.all_hold, Following.ends_with-push, Following.log_spelled, Lawful.Goes, Lawful.driver_of-push, Lawful.keeps_on, Lawful.next_by, Own.fault}
+use Rattle.host_driver.{proofs.Spelled.spelled-push, specs.Driving.gives, specs.Driving.replied, specs.Driving.reply_fault, specs.Running.GoInTurns, specs.Running.HasAsked, specs.Running.work_of}
+use Rattle.host_driver.specs.{Spelling.AreSpelled, Spelling.AreSpelledIn, Standing.Standing, Standing.taking}
 use Rattle.host_driver.specs.Journals.{IsDriven, IsDrivenStep, IsTurn, IsUnlined, driver_of, ends_with, entries_of_others, entry_of_others, is_at_rest, pair_of}
-use Rattle.host_driver.specs.Running.{GoInTurns, HasAsked, work_of}
-use Rattle.host_driver.specs.Spelling.{AreSpelled, AreSpelledIn}
-use Rattle.host_driver.specs.Standing.{Standing, taking}
-use Rattle.host_driver.proofs.Following.{Holding, all_hold, ends_with-push, log_spelled}
-use Rattle.host_driver.proofs.Lawful.{Goes, driver_of-push, keeps_on, next_by}
-use Rattle.host_driver.proofs.Own.{fault}
-use Rattle.host_driver.proofs.Spelled.{spelled-push}
 
 -- ---- one entry more
 

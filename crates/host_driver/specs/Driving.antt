@@ -1,19 +1,12 @@
 -- The driver of one host: what it keeps, what it asks next, and what a reply makes of it.
 use Rattle.std.specs.Prelude.{ℕ, ◌+◌, Bool, false, ◌&&◌, ◌||◌, not, ◌==◌, nat_le, nat_lt, List, [], ◌∷◌, ◌++◌, length, map, take, fold, find, sum_by, Option, Some, None, if◌then◌else◌}
 use Rattle.std.specs.Option.{is_some}
-use Rattle.dcd_base.specs.declared.capacity.Extent.{Extent}
-use Rattle.dcd_base.specs.Words.{is_empty, zero_tag}
-use Rattle.cci_codec.specs.declared.messages.Request.{Request}
-use Rattle.cci_codec.specs.declared.messages.Response.{Response}
-use Rattle.event_records.specs.declared.events.EventKind.{EventKind}
-use Rattle.event_records.specs.declared.events.Event.{Event}
+use Rattle.dcd_base.specs.{declared.capacity.Extent.Extent, Words.is_empty, Words.zero_tag, Layouts.spelling}
+use Rattle.cci_codec.specs.declared.messages.{Request.Request, Response.Response}
+use Rattle.event_records.specs.declared.events.{EventKind.EventKind, Event.Event}
 use Rattle.extent_list.specs.ExtentLists.{cut, has_range}
-use Rattle.dcd_base.specs.Layouts.{spelling}
-use Rattle.host_payloads.specs.declared.requests.HostRequest.{HostRequest}
-use Rattle.host_payloads.specs.HostPayloads.{host_fields, host_opcode}
-use Rattle.host_driver.specs.declared.due.Due.{Due}
-use Rattle.host_driver.specs.declared.faults.DriverFault.{DriverFault}
-use Rattle.host_driver.specs.Pages.{events_in, page_fault}
+use Rattle.host_payloads.specs.{declared.requests.HostRequest.HostRequest, HostPayloads.host_fields, HostPayloads.host_opcode}
+use Rattle.host_driver.specs.{declared.due.Due.Due, declared.faults.DriverFault.DriverFault, Pages.events_in, Pages.page_fault}
 
 -- The table of the host's extents; what offers and requests to release have gathered; which request is next, or is out;
 -- of the page at hand the records that are still to be treated, and all its handles; and whether the last page had no

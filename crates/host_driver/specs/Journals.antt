@@ -1,24 +1,12 @@
 -- A journal in which the driver acts for one host, and what holds of it.
 use Rattle.std.specs.Prelude.{◌≡◌, ℕ, Bool, true, false, ◌&&◌, ◌||◌, not, List, [], ◌∷◌, flat_map, fold, if◌then◌else◌, IsTrue, IsFalse}
 use Rattle.std.specs.List.{enumerate_from}
-use Rattle.dcd_base.specs.declared.capacity.Extent.{Extent}
-use Rattle.dcd_base.specs.declared.ids.HostId.{HostId}
-use Rattle.dcd_base.specs.declared.steps.Actor.{Actor}
-use Rattle.dcd_base.specs.declared.steps.LogId.{LogId}
-use Rattle.dcd_base.specs.Words.{is_empty}
-use Rattle.cci_codec.specs.declared.messages.Request.{Request}
-use Rattle.cci_codec.specs.declared.messages.Response.{Response}
+use Rattle.dcd_base.specs.{declared.capacity.Extent.Extent, declared.ids.HostId.HostId, declared.steps.Actor.Actor, declared.steps.LogId.LogId, Words.is_empty}
+use Rattle.cci_codec.specs.declared.messages.{Request.Request, Response.Response}
 use Rattle.region_config.specs.Configurations.{Configuration}
-use Rattle.journal_core.specs.declared.acts.Act.{Act}
-use Rattle.journal_core.specs.declared.acts.Reply.{Reply}
-use Rattle.journal_core.specs.declared.entries.Entry.{Entry}
-use Rattle.journal_core.specs.Entries.{Each, effects, fits}
-use Rattle.report.specs.script_codec.specs.declared.script_line.Line.{Line}
-use Rattle.report.specs.script_codec.specs.Covering.{pass_of}
-use Rattle.device_plain.specs.device_rules.specs.Counts.{records_of}
-use Rattle.device_plain.specs.device_rules.specs.Hosts.{accepted_of}
-use Rattle.device_plain.specs.device_rules.specs.Legal.{Legal}
-use Rattle.device_plain.specs.isolation_laws.specs.Solo.{acts_for}
+use Rattle.journal_core.specs.{declared.acts.Act.Act, declared.acts.Reply.Reply, declared.entries.Entry.Entry, Entries.Each, Entries.effects, Entries.fits}
+use Rattle.report.specs.script_codec.specs.{declared.script_line.Line.Line, Covering.pass_of}
+use Rattle.device_plain.specs.{device_rules.specs.Counts.records_of, device_rules.specs.Hosts.accepted_of, device_rules.specs.Legal.Legal, isolation_laws.specs.Solo.acts_for}
 use Rattle.host_driver.specs.Driving.{Driven, driven, gives, is_refusal}
 
 -- ---- the driver as a host of the journal

@@ -1,7 +1,6 @@
 -- What a driver keeps, with the room that its lists have.
 use Rattle.std.specs.Prelude.{ℕ, ◌≤◌, drop}
-use Rattle.host_driver.specs.Driving.{Driven}
-use Rattle.host_driver.specs.declared.kept.Kept.{Kept}
+use Rattle.host_driver.specs.{Driving.Driven, declared.kept.Kept.Kept}
 
 -- what it keeps, without the room
 abbrev pub kept_in : Kept → Driven

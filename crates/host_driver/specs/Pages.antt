@@ -1,13 +1,8 @@
 -- A page of event records: the payload of the reply to 0100h, as it is read.
 use Rattle.std.specs.Prelude.{ℕ, ◌+◌, ◌==◌, List, [], ◌∷◌, length, map, drop, slice_index, Option, Some, None, if◌then◌else◌}
 use Rattle.std.specs.Int.{w16, w32, w64}
-use Rattle.dcd_base.specs.Words.{◌or◌}
-use Rattle.event_records.specs.Records.{record_fault}
-use Rattle.event_records.specs.declared.events.Event.{Event}
-use Rattle.event_records.specs.declared.events.EventKind.{EventKind}
-use Rattle.event_records.specs.declared.faults.RecordFault.{RecordFault}
-use Rattle.dcd_base.specs.Layouts.{number_at, pieces}
-use Rattle.dcd_base.specs.Payloads.{counted, has_flag, tag_at}
+use Rattle.dcd_base.specs.{Words.◌or◌, Layouts.number_at, Layouts.pieces, Payloads.counted, Payloads.has_flag, Payloads.tag_at}
+use Rattle.event_records.specs.{Records.record_fault, declared.events.Event.Event, declared.events.EventKind.EventKind, declared.faults.RecordFault.RecordFault}
 use Rattle.host_driver.specs.declared.faults.DriverFault.{DriverFault}
 
 -- the kind of a number up to 5

@@ -3,18 +3,10 @@ use Rattle.std.specs.Prelude.{◌≡◌, ◌≢◌, ℕ, ◌<◌, ◌≤◌, Lis
 use Rattle.edge_io.specs.Meanings.{Meaning}
 use Rattle.dcd_base.specs.declared.capacity.Extent.{Extent}
 use Rattle.journal_core.specs.declared.entries.Entry.{Entry}
-use Rattle.report.specs.script_codec.specs.declared.faults.ScriptFault.{ScriptFault}
-use Rattle.report.specs.script_codec.specs.declared.scripts.Script.{Script}
-use Rattle.report.specs.script_codec.specs.Reading.{first_fault}
-use Rattle.report.specs.script_codec.specs.Scripts.{ReadsScript}
-use Rattle.report.specs.Texts.{line_of, text}
-use Rattle.report.specs.Refusals.{refusal_line}
+use Rattle.report.specs.{Refusals.refusal_line, Texts.line_of, Texts.text, script_codec.specs.Reading.first_fault, script_codec.specs.Scripts.ReadsScript}
+use Rattle.report.specs.script_codec.specs.declared.{faults.ScriptFault.ScriptFault, scripts.Script.Script}
+use Rattle.host_driver.specs.{Journals.IsDrive, Statuses.drive_end, Words.IsDriveChoice, declared.printed.Printed.Printed, declared.status.DriveStatus.DriveStatus}
 use Rattle.host_driver.specs.declared.words.DriveChoice.{DriveChoice}
-use Rattle.host_driver.specs.declared.status.DriveStatus.{DriveStatus}
-use Rattle.host_driver.specs.Journals.{IsDrive}
-use Rattle.host_driver.specs.Statuses.{drive_end}
-use Rattle.host_driver.specs.Words.{IsDriveChoice}
-use Rattle.host_driver.specs.declared.printed.Printed.{Printed}
 
 -- the line of an extent of the table: its start and its length
 unfoldable pub extent_line : Extent → List ℕ

@@ -1,22 +1,14 @@
 -- A driver over a device, between any two steps, and how much it has to do.
 use Rattle.std.specs.Prelude.{◌≡◌, ℕ, ◌+◌, ◌*◌, ◌<◌, Bool, true, List, [], ◌∷◌, ◌++◌, length, IsTrue, IsFalse}
-use Rattle.dcd_base.specs.Words.{is_empty}
-use Rattle.dcd_base.specs.declared.ids.HostId.{HostId}
-use Rattle.dcd_base.specs.declared.steps.LogId.{LogId}
+use Rattle.dcd_base.specs.{Words.is_empty, declared.ids.HostId.HostId, declared.steps.LogId.LogId}
 use Rattle.event_log.specs.Logs.{records_in}
 use Rattle.event_records.specs.declared.events.Event.{Event}
 use Rattle.region_config.specs.Configurations.{Configuration}
-use Rattle.journal_core.specs.declared.entries.Entry.{Entry}
-use Rattle.journal_core.specs.Entries.{Each, effects}
+use Rattle.journal_core.specs.{declared.entries.Entry.Entry, Entries.Each, Entries.effects}
 use Rattle.report.specs.script_codec.specs.declared.script_line.Line.{Line}
-use Rattle.device_plain.specs.device_rules.specs.Legal.{Legal}
-use Rattle.device_plain.specs.device_rules.specs.Logs.{log_of}
-use Rattle.device_plain.specs.Devices.{Plain}
-use Rattle.host_driver.specs.declared.due.Due.{Due}
-use Rattle.host_driver.specs.Driving.{Driven}
+use Rattle.device_plain.specs.{device_rules.specs.Legal.Legal, device_rules.specs.Logs.log_of, Devices.Plain}
+use Rattle.host_driver.specs.{declared.due.Due.Due, Driving.Driven, Spelling.AreSpelled, Spelling.AreSpelledIn, Standing.Standing}
 use Rattle.host_driver.specs.Journals.{IsDriven, IsTurn, IsUnlined, driver_of, ends_with, entries_of_others, is_at_rest, line_of_others, lines_of_others}
-use Rattle.host_driver.specs.Spelling.{AreSpelled, AreSpelledIn}
-use Rattle.host_driver.specs.Standing.{Standing}
 
 -- The journal is legal, and the records that its last entry put into logs are spelled as they are read.
 pub record EndsSpelled (device : Plain) : Type 0 where

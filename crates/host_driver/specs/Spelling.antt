@@ -1,11 +1,7 @@
 -- Records whose numbers and bytes are those of their 128 bytes.
-use Rattle.std.specs.Prelude.{List}
-use Rattle.std.specs.List.{AllByRecursion}
-use Rattle.event_records.specs.Records.{WritesRecord, record_bytes}
-use Rattle.event_records.specs.declared.events.Event.{Event}
-use Rattle.journal_core.specs.Entries.{effects}
-use Rattle.journal_core.specs.declared.entries.Entry.{Entry}
-use Rattle.journal_core.specs.declared.outcome.Effect.{Effect}
+use Rattle.std.specs.{Prelude.List, List.AllByRecursion}
+use Rattle.event_records.specs.{Records.WritesRecord, Records.record_bytes, declared.events.Event.Event}
+use Rattle.journal_core.specs.{Entries.effects, declared.entries.Entry.Entry, declared.outcome.Effect.Effect}
 
 -- The bytes of the event are its one spelling.
 abbrev pub IsSpelled : Event → Type 0

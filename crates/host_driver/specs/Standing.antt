@@ -2,8 +2,7 @@
 use Rattle.std.specs.Prelude.{ℕ, Bool, false, Option, Some, None, if◌then◌else◌}
 use Rattle.dcd_base.specs.declared.ids.HostId.{HostId}
 use Rattle.cci_codec.specs.declared.messages.Response.{Response}
-use Rattle.host_driver.specs.declared.faults.DriverFault.{DriverFault}
-use Rattle.host_driver.specs.Driving.{Driven, first_driven, gives, replied, reply_fault}
+use Rattle.host_driver.specs.{declared.faults.DriverFault.DriverFault, Driving.Driven, Driving.first_driven, Driving.gives, Driving.replied, Driving.reply_fault}
 
 -- its host, the most bytes that it takes, whether a request is out, and what it keeps
 pub record Standing : Type 0 where

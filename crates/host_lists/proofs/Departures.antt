@@ -1,21 +1,11 @@
 -- Extents of a list that breaks no rule can leave, also with the tags and the sequences that they leave with.
 use Rattle.std.proofs.Common.{◌≡◌, ℕ, zero, suc, ◌<◌, Bool, false, not, List, [], ◌∷◌, length, get_or, take, map, None, refl, sym, subst, ◌∙◌, arith, rules}
-use Rattle.std.specs.Prelude.{nat_le}
-use Rattle.std.proofs.lemmas.List.{length-map, take-map}
-use Rattle.std.proofs.lemmas.List.Folds.{list_all-map}
-use Rattle.extent_list.specs.dcd_codes.specs.dcd_base.specs.declared.capacity.Extent.{Extent}
-use Rattle.extent_list.specs.dcd_codes.specs.dcd_base.specs.declared.ids.HostId.{HostId}
-use Rattle.extent_list.specs.dcd_codes.specs.dcd_base.specs.Words.{◌or◌, is_empty, where_true}
-use Rattle.extent_list.specs.dcd_codes.specs.declared.rules.Rule.{Rule}
-use Rattle.extent_list.specs.dcd_codes.specs.Rules.{◌breaks◌}
-use Rattle.extent_list.specs.ExtentLists.{cut, cut_all, marked, overlaps}
-use Rattle.extent_list.specs.Listing.{incomplete, too_many_extents, too_many_listed}
-use Rattle.extent_list.specs.media_map.specs.region_config.specs.Configurations.{Configuration}
+use Rattle.std.{specs.Prelude.nat_le, proofs.lemmas.List.length-map, proofs.lemmas.List.take-map, proofs.lemmas.List.Folds.list_all-map}
+use Rattle.extent_list.specs.{ExtentLists.cut, ExtentLists.cut_all, ExtentLists.marked, ExtentLists.overlaps, Listing.incomplete, Listing.too_many_extents, Listing.too_many_listed}
+use Rattle.extent_list.specs.dcd_codes.specs.{Rules.◌breaks◌, dcd_base.specs.Words.◌or◌, dcd_base.specs.Words.is_empty, dcd_base.specs.Words.where_true, dcd_base.specs.declared.capacity.Extent.Extent}
+use Rattle.extent_list.specs.{dcd_codes.specs.dcd_base.specs.declared.ids.HostId.HostId, dcd_codes.specs.declared.rules.Rule.Rule, media_map.specs.region_config.specs.Configurations.Configuration}
 use Rattle.extent_list.specs.media_map.specs.region_config.specs.Soundness.{IsSound}
-use Rattle.release_core.proofs.Members.{neither}
-use Rattle.release_core.proofs.FreeToLeave.{all_can_leave}
-use Rattle.release_core.specs.Leaving.{AllCanLeave, CanLeave, count_after}
-use Rattle.release_core.specs.Releases.{give_back_rule}
+use Rattle.release_core.{proofs.FreeToLeave.all_can_leave, proofs.Members.neither, specs.Leaving.AllCanLeave, specs.Leaving.CanLeave, specs.Leaving.count_after, specs.Releases.give_back_rule}
 use Rattle.release_core.specs.Removals.{prescribed_removal_rule}
 
 -- ---- with other tags

@@ -1,18 +1,10 @@
 -- Extents of offers, one offer after another.
 use Rattle.std.proofs.Common.{◌≡◌, ◌||◌, ℕ, ◌+◌, ◌<◌, Bool, true, false, List, [], ◌∷◌, ◌++◌, length, zero, suc, Some, get_or, drop, take, refl, sym, ap, ◌∙◌, append_assoc, append-nil, arith, length-append}
-use Rattle.std.specs.Prelude.{flat_map, slice_get}
-use Rattle.std.specs.List.{list_any}
-use Rattle.std.proofs.lemmas.List.{get_or-take, length-take, take_more, take_all}
-use Rattle.std.proofs.lemmas.List.Concat.{flat_map-append, length-flat_map}
-use Rattle.std.proofs.lemmas.List.Sums.{sum_by_push}
-use Rattle.std.proofs.lemmas.List.Folds.{list_any-append, list_any_at, list_any_more}
-use Rattle.extent_list.specs.dcd_codes.specs.dcd_base.specs.declared.capacity.Extent.{Extent}
-use Rattle.extent_list.specs.dcd_codes.specs.dcd_base.specs.declared.capacity.Tag.{Tag}
-use Rattle.extent_list.specs.dcd_codes.specs.dcd_base.specs.Words.{same_tag}
-use Rattle.extent_list.specs.ExtentLists.{count_in, has_extent_of}
-use Rattle.extent_list.specs.HostLists.{Lists, extent_total, extents_of_lists}
-use Rattle.offer_core.specs.declared.offer.Offer.{Offer}
-use Rattle.offer_core.specs.Offerings.{lists_of, oldest_of}
+use Rattle.std.proofs.lemmas.List.{get_or-take, length-take, take_more, take_all, Concat.flat_map-append, Concat.length-flat_map, Folds.list_any-append, Folds.list_any_at, Folds.list_any_more}
+use Rattle.std.{proofs.lemmas.List.Sums.sum_by_push, specs.List.list_any, specs.Prelude.flat_map, specs.Prelude.slice_get}
+use Rattle.extent_list.specs.{ExtentLists.count_in, ExtentLists.has_extent_of, HostLists.Lists, HostLists.extent_total, HostLists.extents_of_lists, dcd_codes.specs.dcd_base.specs.Words.same_tag}
+use Rattle.extent_list.specs.dcd_codes.specs.dcd_base.specs.declared.capacity.{Extent.Extent, Tag.Tag}
+use Rattle.offer_core.specs.{declared.offer.Offer.Offer, Offerings.lists_of, Offerings.oldest_of}
 use Rattle.host_lists.specs.Tags.{extents_before}
 
 or_swap : (a b c : Bool) → ((a || b) || c) ≡ ((c || a) || b)

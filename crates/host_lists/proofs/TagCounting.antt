@@ -1,17 +1,10 @@
 -- How many tags there are with one extent more.
 use Rattle.std.proofs.Common.{◌≡◌, ◌||◌, ◌&&◌, ℕ, zero, suc, ◌+◌, ◌^◌, ◌-◌, ◌<◌, ◌≤◌, Bool, true, false, inl, inr, if◌then◌else◌, List, [], ◌∷◌, ◌++◌, length, get_or, take, map, fold, not, refl, sym, ap, ◌∙◌, append_assoc, append-nil, arith}
-use Rattle.std.specs.Prelude.{filter, min}
-use Rattle.std.proofs.lemmas.Bool.{cases_Bool}
-use Rattle.std.proofs.lemmas.Cmp.{nat_list_eq_equiv}
-use Rattle.std.proofs.lemmas.List.{length_push, length-map, map-append, take_more}
-use Rattle.std.proofs.lemmas.List.Elements.{filter-append}
-use Rattle.std.proofs.lemmas.List.Folds.{list_all_at, list_any-append}
-use Rattle.std.specs.List.{list_all}
-use Rattle.std.proofs.lemmas.List.Sums.{count_by-le-length, fold_push, length-filter}
-use Rattle.extent_list.specs.dcd_codes.specs.dcd_base.specs.declared.capacity.Extent.{Extent}
-use Rattle.extent_list.specs.dcd_codes.specs.dcd_base.specs.declared.capacity.Tag.{Tag}
-use Rattle.extent_list.specs.dcd_codes.specs.dcd_base.specs.Words.{distinct_tags, has_tag, is_zero_tag, same_tag}
+use Rattle.std.proofs.lemmas.{Bool.cases_Bool, Cmp.nat_list_eq_equiv, List.length_push, List.length-map, List.map-append, List.take_more, List.Elements.filter-append}
+use Rattle.std.proofs.lemmas.List.{Folds.list_all_at, Folds.list_any-append, Sums.count_by-le-length, Sums.fold_push, Sums.length-filter}
+use Rattle.std.specs.{List.list_all, Prelude.filter, Prelude.min}
 use Rattle.extent_list.specs.ExtentLists.{has_extent_of, tags_of}
+use Rattle.extent_list.specs.dcd_codes.specs.dcd_base.specs.{Words.distinct_tags, Words.has_tag, Words.is_zero_tag, Words.same_tag, declared.capacity.Extent.Extent, declared.capacity.Tag.Tag}
 use Rattle.host_lists.specs.Tags.{capped, is_new, tag_count}
 
 -- the tags seen, and one more unless it is among them

@@ -1,8 +1,6 @@
 -- What a removal by force does to a host's lists.
 use Rattle.std.specs.Prelude.{List}
-use Rattle.extent_list.specs.dcd_codes.specs.dcd_base.specs.declared.capacity.Extent.{Extent}
-use Rattle.extent_list.specs.ExtentLists.{cut_all}
-use Rattle.extent_list.specs.HostLists.{Lists, next_generation}
+use Rattle.extent_list.specs.{dcd_codes.specs.dcd_base.specs.declared.capacity.Extent.Extent, ExtentLists.cut_all, HostLists.Lists, HostLists.next_generation}
 
 -- the lists without extents that are taken out
 abbrev pub lists_less : List Extent → Lists → Lists

@@ -1,9 +1,7 @@
 -- How many tags are among extents.
 use Rattle.std.specs.Prelude.{ℕ, ◌-◌, ◌^◌, Bool, ◌&&◌, not, List, ◌++◌, flat_map, length, map, min, take}
-use Rattle.extent_list.specs.dcd_codes.specs.dcd_base.specs.declared.capacity.Extent.{Extent}
+use Rattle.extent_list.specs.{ExtentLists.has_extent_of, ExtentLists.real_tags, dcd_codes.specs.dcd_base.specs.Words.is_zero_tag, dcd_codes.specs.dcd_base.specs.declared.capacity.Extent.Extent}
 use Rattle.extent_list.specs.dcd_codes.specs.dcd_base.specs.declared.capacity.Tag.{Tag}
-use Rattle.extent_list.specs.dcd_codes.specs.dcd_base.specs.Words.{is_zero_tag}
-use Rattle.extent_list.specs.ExtentLists.{has_extent_of, real_tags}
 
 -- how many distinct tags they have; sixteen zero bytes are none
 abbrev pub tag_count : List Extent → ℕ

@@ -1,19 +1,12 @@
 -- What a payload reads as a list of extents is the list that it is, and the other way round.
 use Rattle.std.proofs.Common.{◌≡◌, ℕ, ◌+◌, ◌-◌, ◌*◌, ◌/◌, Bool, true, List, ◌∷◌, length, map, flat_map, drop, refl, sym, ap, subst, ◌∙◌, arith}
-use Rattle.std.specs.List.{list_all}
-use Rattle.std.specs.Int.{w32}
-use Rattle.std.proofs.lemmas.List.{length-drop, length-map}
-use Rattle.event_records.specs.dcd_base.specs.declared.capacity.Extent.{Extent}
-use Rattle.event_records.specs.dcd_base.specs.Layouts.{Number, Reserved, pieces, number_at, flag}
-use Rattle.event_records.specs.dcd_base.specs.Payloads.{has_flag}
-use Rattle.host_payloads.specs.HostPayloads.{list_fields, list_length, listed_extent, listed_extents, listed_fields, is_untagged}
-use Rattle.event_records.specs.dcd_base.proofs.Fields.{IsBytes}
-use Rattle.event_records.specs.dcd_base.proofs.Agreement.{Agrees}
-use Rattle.event_records.specs.dcd_base.proofs.PayloadLengths.{counted_at, counted_is}
-use Rattle.event_records.specs.dcd_base.proofs.Widths.{IsBytes-drop, wide_32}
-use Rattle.event_records.specs.dcd_base.proofs.Pieces.{length-pieces, pieces_found, pieces_only}
+use Rattle.std.{specs.List.list_all, specs.Int.w32, proofs.lemmas.List.length-drop, proofs.lemmas.List.length-map}
+use Rattle.event_records.specs.dcd_base.proofs.{Agreement.Agrees, Fields.IsBytes, PayloadLengths.counted_at, PayloadLengths.counted_is, Pieces.length-pieces, Pieces.pieces_found, Pieces.pieces_only}
 use Rattle.event_records.specs.dcd_base.proofs.Places.{FieldsAt, all_from, number_found, number_only, flag_found, flag_only, reserved_found, reserved_only}
+use Rattle.event_records.specs.dcd_base.proofs.Widths.{IsBytes-drop, wide_32}
+use Rattle.event_records.specs.dcd_base.specs.{Layouts.Number, Layouts.Reserved, Layouts.pieces, Layouts.number_at, Layouts.flag, Payloads.has_flag, declared.capacity.Extent.Extent}
 use Rattle.host_payloads.proofs.Shapes.{listed_found, listed_only, each_untagged, IsUntagged}
+use Rattle.host_payloads.specs.HostPayloads.{list_fields, list_length, listed_extent, listed_extents, listed_fields, is_untagged}
 
 -- ---- 4802h and 4803h: a count, a flag, extents
 

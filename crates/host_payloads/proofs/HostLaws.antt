@@ -1,23 +1,12 @@
 -- A payload is read as a request exactly where it reads so, and as that one.
 use Rattle.std.proofs.Common.{◌≡◌, ℕ, ◌-◌, ◌/◌, drop, Bool, true, false, cond, eqb, List, [], ◌∷◌, length, map, get_or, Result, Ok, Err, refl, sym, ap, subst, ◌∙◌}
-use Rattle.std.proofs.lemmas.Bool.{eqb-true}
-use Rattle.event_records.specs.dcd_base.specs.declared.capacity.Extent.{Extent}
-use Rattle.event_records.specs.dcd_base.specs.Layouts.{Reads, number_at, pieces}
-use Rattle.std.specs.Int.{w32}
-use Rattle.std.specs.List.{list_all}
-use Rattle.std.specs.Prelude.{IfOk}
-use Rattle.event_records.specs.dcd_base.specs.declared.faults.PayloadFault.{PayloadFault}
-use Rattle.host_payloads.specs.declared.requests.HostRequest.{HostRequest}
-use Rattle.host_payloads.specs.HostPayloads.{list_fields, list_length, listed_extent, listed_extents, is_untagged, host_opcode, host_fields, lists_untagged, IsHostRequest, events_asked, clear_asked, configuration_asked, extents_asked, listed_in, of_list, host_request}
-use Rattle.event_records.specs.dcd_base.specs.Payloads.{has_flag, Gives}
-use Rattle.event_records.specs.dcd_base.specs.EventCommands.{handles_in, clear_length}
-use Rattle.event_records.specs.dcd_base.proofs.Agreement.{Agrees}
-use Rattle.event_records.specs.dcd_base.proofs.Fields.{IsBytes}
-use Rattle.event_records.specs.dcd_base.proofs.Widths.{wide_32}
+use Rattle.std.{proofs.lemmas.Bool.eqb-true, specs.Int.w32, specs.List.list_all, specs.Prelude.IfOk}
+use Rattle.event_records.specs.dcd_base.proofs.{Agreement.Agrees, EventCommands.clear_agrees, EventCommands.clear_is, Fields.IsBytes, PayloadLengths.sized_at, PayloadLengths.sized_is}
 use Rattle.event_records.specs.dcd_base.proofs.Places.{Reads-from, all_from, end_found, end_only, number_found, number_only, byte_found, byte_only}
-use Rattle.event_records.specs.dcd_base.proofs.EventCommands.{clear_agrees, clear_is}
-use Rattle.event_records.specs.dcd_base.proofs.PayloadLengths.{sized_at, sized_is}
-use Rattle.host_payloads.proofs.Asked.{list_agrees, list_is}
+use Rattle.event_records.specs.dcd_base.{proofs.Widths.wide_32, specs.EventCommands.handles_in, specs.EventCommands.clear_length, specs.Layouts.Reads, specs.Layouts.number_at, specs.Layouts.pieces}
+use Rattle.event_records.specs.dcd_base.specs.{Payloads.has_flag, Payloads.Gives, declared.capacity.Extent.Extent, declared.faults.PayloadFault.PayloadFault}
+use Rattle.host_payloads.{specs.declared.requests.HostRequest.HostRequest, proofs.Asked.list_agrees, proofs.Asked.list_is}
+use Rattle.host_payloads.specs.HostPayloads.{list_fields, list_length, listed_extent, listed_extents, is_untagged, host_opcode, host_fields, lists_untagged, IsHostRequest, events_asked, clear_asked, configuration_asked, extents_asked, listed_in, of_list, host_request}
 
 events_found : (payload : List ℕ) (q : HostRequest) → IsBytes payload → events_asked payload ≡ Ok q → IsHostRequest 0x0100 payload q
 unfolding events_asked

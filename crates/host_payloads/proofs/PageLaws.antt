@@ -1,23 +1,15 @@
 -- A payload is read as a page exactly where it reads so, and as that one.
 use Rattle.std.proofs.Common.{◌≡◌, ℕ, ◌+◌, ◌-◌, ◌*◌, ◌/◌, ◌^◌, ◌<◌, ◌≤◌, List, [], ◌∷◌, ◌++◌, length, map, flat_map, drop, Result, Ok, Err, refl, sym, ap, subst, ◌∙◌, arith}
-use Rattle.std.specs.Prelude.{IfOk}
-use Rattle.std.specs.List.{AllByRecursion}
-use Rattle.std.specs.Int.{w32}
-use Rattle.std.proofs.lemmas.List.{length-map}
-use Rattle.event_records.specs.dcd_base.specs.declared.capacity.Extent.{Extent}
-use Rattle.event_records.specs.dcd_base.specs.Layouts.{Number, Reserved, FitsField, number_at, pieces, spelling}
-use Rattle.event_records.specs.dcd_base.specs.declared.faults.PayloadFault.{PayloadFault}
-use Rattle.host_payloads.specs.declared.pages.ExtentsPage.{ExtentsPage}
-use Rattle.host_payloads.specs.HostPayloads.{IsPage, extents_payload, extents_in_page, page_fields, page_head, page_in, page_length}
-use Rattle.event_records.specs.dcd_base.specs.Payloads.{Gives}
-use Rattle.event_records.specs.dcd_base.specs.Extents.{FitsExtent, extent_bytes, whole_extent, extent_fields}
-use Rattle.event_records.specs.dcd_base.proofs.Agreement.{Agrees, Agrees-spelled}
-use Rattle.event_records.specs.dcd_base.proofs.Fields.{IsBytes}
-use Rattle.event_records.specs.dcd_base.proofs.PayloadLengths.{counted_at, counted_is, sized_at, sized_is}
-use Rattle.event_records.specs.dcd_base.proofs.Pieces.{length-pieces}
-use Rattle.event_records.specs.dcd_base.proofs.WholeExtents.{extents_agree, extents_are, extents_fit, extents_spelled}
-use Rattle.event_records.specs.dcd_base.proofs.Widths.{wide_32}
+use Rattle.std.{specs.Prelude.IfOk, specs.List.AllByRecursion, specs.Int.w32, proofs.lemmas.List.length-map}
+use Rattle.event_records.specs.dcd_base.proofs.{Agreement.Agrees, Agreement.Agrees-spelled, Fields.IsBytes}
+use Rattle.event_records.specs.dcd_base.proofs.{PayloadLengths.counted_at, PayloadLengths.counted_is, PayloadLengths.sized_at, PayloadLengths.sized_is, Pieces.length-pieces}
 use Rattle.event_records.specs.dcd_base.proofs.Places.{FieldsAt, Reads-from, all_from, number_found, number_only, reserved_found, reserved_only}
+use Rattle.event_records.specs.dcd_base.proofs.{WholeExtents.extents_agree, WholeExtents.extents_are, WholeExtents.extents_fit, WholeExtents.extents_spelled, Widths.wide_32}
+use Rattle.event_records.specs.dcd_base.specs.Extents.{FitsExtent, extent_bytes, whole_extent, extent_fields}
+use Rattle.event_records.specs.dcd_base.specs.{Layouts.Number, Layouts.Reserved, Layouts.FitsField, Layouts.number_at, Layouts.pieces, Layouts.spelling, Payloads.Gives}
+use Rattle.event_records.specs.dcd_base.specs.declared.{capacity.Extent.Extent, faults.PayloadFault.PayloadFault}
+use Rattle.host_payloads.specs.HostPayloads.{IsPage, extents_payload, extents_in_page, page_fields, page_head, page_in, page_length}
+use Rattle.host_payloads.specs.declared.pages.ExtentsPage.{ExtentsPage}
 
 -- ---- pages
 

@@ -1,19 +1,10 @@
 -- Extents without tags in a payload, both ways.
 use Rattle.std.proofs.Common.{◌≡◌, ℕ, Bool, true, false, List, [], ◌∷◌, length, refl, sym}
-use Rattle.std.specs.Prelude.{◌&&◌, replicate}
-use Rattle.std.specs.List.{list_all, AllByRecursion}
-use Rattle.std.specs.Int.{w64}
-use Rattle.std.specs.Cmp.Lexicographic.{same_text}
-use Rattle.std.proofs.lemmas.Bool.{eqb-true}
-use Rattle.event_records.specs.dcd_base.specs.declared.capacity.Extent.{Extent}
-use Rattle.event_records.specs.dcd_base.specs.declared.capacity.Tag.{Tag}
-use Rattle.event_records.specs.dcd_base.specs.Words.{is_zero_tag}
-use Rattle.host_payloads.specs.HostPayloads.{listed_fields, listed_extent, is_untagged}
-use Rattle.event_records.specs.dcd_base.proofs.Fields.{IsBytes}
-use Rattle.event_records.specs.dcd_base.proofs.Agreement.{Agrees}
-use Rattle.event_records.specs.dcd_base.proofs.Widths.{wide_64}
-use Rattle.event_records.specs.dcd_base.proofs.WholeExtents.{same_extent}
+use Rattle.std.{specs.Prelude.◌&&◌, specs.Prelude.replicate, specs.List.list_all, specs.List.AllByRecursion, specs.Int.w64, specs.Cmp.Lexicographic.same_text, proofs.lemmas.Bool.eqb-true}
+use Rattle.event_records.specs.dcd_base.proofs.{Agreement.Agrees, Fields.IsBytes}
 use Rattle.event_records.specs.dcd_base.proofs.Places.{all_from, end_found, end_only, number_found, number_only, reserved_found, reserved_only}
+use Rattle.event_records.specs.dcd_base.{proofs.WholeExtents.same_extent, proofs.Widths.wide_64, specs.Words.is_zero_tag, specs.declared.capacity.Extent.Extent, specs.declared.capacity.Tag.Tag}
+use Rattle.host_payloads.specs.HostPayloads.{listed_fields, listed_extent, is_untagged}
 
 pub listed_found : (b : List ℕ) → length b ≡ 24 → IsBytes b → Agrees b (listed_fields (listed_extent b))
 listed_found b len small =

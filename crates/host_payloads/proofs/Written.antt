@@ -1,21 +1,11 @@
 -- What is appended piece by piece is the one spelling.
 use Rattle.std.proofs.Common.{◌≡◌, ℕ, ◌^◌, ◌<◌, Bool, true, List, [], ◌∷◌, ◌++◌, length, flat_map, sym, ap, ◌∙◌, Result, Ok, Err}
-use Rattle.std.specs.Prelude.{OnOk}
-use Rattle.std.specs.List.{AllByRecursion}
-use Rattle.std.specs.Int.{w32}
-use Rattle.std.proofs.lemmas.List.Concat.{flat_map-append}
-use Rattle.event_records.specs.dcd_base.specs.declared.capacity.Extent.{Extent}
+use Rattle.std.{specs.Prelude.OnOk, specs.List.AllByRecursion, specs.Int.w32, proofs.lemmas.List.Concat.flat_map-append}
+use Rattle.event_records.specs.{Records.record_bytes, Records.record_fields, dcd_base.proofs.Agreement.Agrees-spelled, dcd_base.proofs.Pieces.spelling_each, dcd_base.proofs.Places.flag_fits}
+use Rattle.event_records.specs.dcd_base.specs.{Layouts.Number, Layouts.Reserved, Layouts.FitsField, Layouts.flag, Layouts.spell, Layouts.spelling, declared.capacity.Extent.Extent}
 use Rattle.event_records.specs.declared.events.Event.{Event}
-use Rattle.event_records.specs.Records.{record_bytes, record_fields}
-use Rattle.host_payloads.specs.declared.views.Counts.{Counts}
-use Rattle.host_payloads.specs.declared.views.RegionView.{RegionView}
-use Rattle.event_records.specs.dcd_base.specs.Layouts.{Number, Reserved, FitsField, flag, spell, spelling}
-use Rattle.host_payloads.specs.declared.requests.HostRequest.{HostRequest}
+use Rattle.host_payloads.{specs.declared.views.Counts.Counts, specs.declared.views.RegionView.RegionView, specs.declared.requests.HostRequest.HostRequest, proofs.HostLaws.host_only}
 use Rattle.host_payloads.specs.HostPayloads.{configuration_head, configuration_head_fields, configuration_payload, counts_bytes, counts_fields, events_head, events_head_fields, events_payload, region_bytes, view_fields, FitsListed, host_fields, host_opcode, host_request, list_fields, list_head, listed_bytes, listed_fields, lists_untagged}
-use Rattle.event_records.specs.dcd_base.proofs.Agreement.{Agrees-spelled}
-use Rattle.event_records.specs.dcd_base.proofs.Places.{flag_fits}
-use Rattle.event_records.specs.dcd_base.proofs.Pieces.{spelling_each}
-use Rattle.host_payloads.proofs.HostLaws.{host_only}
 
 spelling_listed : (xs : List Extent) → spelling (flat_map listed_fields xs) ≡ flat_map listed_bytes xs
 unfolding listed_bytes

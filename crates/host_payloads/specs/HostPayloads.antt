@@ -1,22 +1,12 @@
 -- What a host asks, and the bytes of the replies.
-use Rattle.event_records.specs.dcd_base.specs.Words.{is_zero_tag, zero_tag, flag_of}
-use Rattle.event_records.specs.dcd_base.specs.EventCommands.{clear_fields, clear_length, handles_in, log_fields}
-use Rattle.event_records.specs.dcd_base.specs.Extents.{extent_fields, whole_extent}
-use Rattle.event_records.specs.dcd_base.specs.Layouts.{Reads, Field, flag, spelling, number_at, pieces, u32_bytes, Number, Masked, Fixed, Reserved}
-use Rattle.event_records.specs.dcd_base.specs.Payloads.{counted, has_flag, sized}
-use Rattle.std.specs.List.{list_all}
-use Rattle.std.specs.Prelude.{◌≡◌, IsTrue, true, ◌&&◌, ℕ, ◌+◌, ◌-◌, ◌^◌, ◌<◌, ◌≤◌, ◌*◌, ◌/◌, Bool, not, ◌==◌, List, [], ◌∷◌, ◌++◌, length, map, flat_map, drop, replicate, slice_index, if◌then◌else◌}
-use Rattle.host_payloads.specs.declared.views.Counts.{Counts}
-use Rattle.host_payloads.specs.declared.views.RegionView.{RegionView}
-use Rattle.std.specs.Int.{w8, w16, w32, w64}
-use Rattle.std.specs.declared.result.Result.{Result}
-use Rattle.std.specs.declared.result.Result.TheVariants.{Ok, Err}
-use Rattle.event_records.specs.dcd_base.specs.declared.capacity.Extent.{Extent}
-use Rattle.event_records.specs.dcd_base.specs.declared.faults.PayloadFault.{PayloadFault}
-use Rattle.event_records.specs.declared.events.Event.{Event}
-use Rattle.host_payloads.specs.declared.pages.ExtentsPage.{ExtentsPage}
-use Rattle.host_payloads.specs.declared.requests.HostRequest.{HostRequest}
 use Rattle.event_records.specs.Records.{record_fields}
+use Rattle.event_records.specs.dcd_base.specs.{EventCommands.clear_fields, EventCommands.clear_length, EventCommands.handles_in, EventCommands.log_fields, Extents.extent_fields, Extents.whole_extent}
+use Rattle.event_records.specs.dcd_base.specs.{Payloads.counted, Payloads.has_flag, Payloads.sized, Words.is_zero_tag, Words.zero_tag, Words.flag_of, declared.capacity.Extent.Extent}
+use Rattle.event_records.specs.{dcd_base.specs.declared.faults.PayloadFault.PayloadFault, declared.events.Event.Event}
+use Rattle.event_records.specs.dcd_base.specs.Layouts.{Reads, Field, flag, spelling, number_at, pieces, u32_bytes, Number, Masked, Fixed, Reserved}
+use Rattle.std.specs.{List.list_all, Int.w8, Int.w16, Int.w32, Int.w64, declared.result.Result.Result, declared.result.Result.TheVariants.Ok, declared.result.Result.TheVariants.Err}
+use Rattle.std.specs.Prelude.{◌≡◌, IsTrue, true, ◌&&◌, ℕ, ◌+◌, ◌-◌, ◌^◌, ◌<◌, ◌≤◌, ◌*◌, ◌/◌, Bool, not, ◌==◌, List, [], ◌∷◌, ◌++◌, length, map, flat_map, drop, replicate, slice_index, if◌then◌else◌}
+use Rattle.host_payloads.specs.declared.{views.Counts.Counts, views.RegionView.RegionView, pages.ExtentsPage.ExtentsPage, requests.HostRequest.HostRequest}
 
 -- an extent without its tag: twenty-four bytes
 abbrev pub listed_fields : Extent → List Field

@@ -1,23 +1,15 @@
 -- An address that a host may use it could use before, or has just accepted.
 use Rattle.std.proofs.Common.{◌≡◌, ◌⊎◌, ℕ, ◌+◌, ◌-◌, ◌<◌, ◌≤◌, Bool, true, false, ◌&&◌, ◌||◌, List, [], ◌∷◌, ◌++◌, length, inl, inr, refl, sym, ap, ◌∙◌, arith, leb, ltb}
-use Rattle.std.specs.Prelude.{fold, nat_lt, ◌==◌, if◌then◌else◌}
-use Rattle.std.specs.List.{list_all, list_any}
+use Rattle.std.{specs.Prelude.fold, specs.Prelude.nat_lt, specs.Prelude.◌==◌, specs.Prelude.if◌then◌else◌, specs.List.list_all, specs.List.list_any, proofs.lemmas.List.Folds.list_any-append}
 use Rattle.std.proofs.lemmas.Bool.{and_from, and_parts, cases_Bool, false≢true, le-leb, leb-true, lt-ltb, ltb-true, or_left, or_right}
-use Rattle.std.proofs.lemmas.List.Folds.{list_any-append}
-use Rattle.dcd_base.specs.declared.capacity.Extent.{Extent}
-use Rattle.dcd_base.specs.declared.ids.HostId.{HostId}
+use Rattle.dcd_base.specs.declared.{capacity.Extent.Extent, ids.HostId.HostId}
 use Rattle.event_records.specs.declared.events.EventKind.{EventKind}
 use Rattle.extent_list.specs.ExtentLists.{cut, cut_all, has_range, lies_in, piece, without}
-use Rattle.journal_core.specs.declared.outcome.Effect.{Effect}
-use Rattle.extent_list.specs.media_map.specs.Places.{bytes_of_run, start_of}
-use Rattle.extent_list.specs.media_map.specs.region_config.specs.Configurations.{Configuration}
+use Rattle.extent_list.specs.media_map.specs.{Places.bytes_of_run, Places.start_of, region_config.specs.Configurations.Configuration}
 use Rattle.extent_list.specs.media_map.specs.region_config.specs.Granules.{is_supported, region_spec}
-use Rattle.device_rules.specs.Hosts.{accepted_after}
-use Rattle.device_rules.specs.Outcomes.{no_extent, record_for}
-use Rattle.device_rules.specs.Views.{View}
-use Rattle.isolation_laws.specs.Solo.{accepts_byte, has_byte, solo_after, with_log_records}
-use Rattle.isolation_laws.specs.declared.items.Item.{Item}
-use Rattle.isolation_laws.proofs.BroughtItems.{is_brought}
+use Rattle.journal_core.specs.declared.outcome.Effect.{Effect}
+use Rattle.device_rules.specs.{Hosts.accepted_after, Outcomes.no_extent, Outcomes.record_for, Views.View}
+use Rattle.isolation_laws.{specs.Solo.accepts_byte, specs.Solo.has_byte, specs.Solo.solo_after, specs.Solo.with_log_records, specs.declared.items.Item.Item, proofs.BroughtItems.is_brought}
 
 pub or_either : (x y : Bool) → (x || y) ≡ true → (x ≡ true) ⊎ (y ≡ true)
 or_either true y some = inl refl

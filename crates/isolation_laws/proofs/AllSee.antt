@@ -1,38 +1,15 @@
 -- After every legal journal each host of the device sees what it would see alone.
 use Rattle.std.proofs.Common.{◌<◌, ◌≢◌, List, [], ◌∷◌, inl, inr, refl, sym, subst}
-use Rattle.std.specs.Prelude.{if◌then◌else◌}
-use Rattle.std.proofs.lemmas.Bool.{cases_eq, eq-eqb, ne_eqb}
-use Rattle.dcd_base.specs.declared.ids.HostId.{HostId}
-use Rattle.dcd_base.specs.declared.steps.Actor.{Actor}
-use Rattle.dcd_base.specs.declared.steps.LogId.{LogId}
+use Rattle.std.{specs.Prelude.if◌then◌else◌, proofs.lemmas.Bool.cases_eq, proofs.lemmas.Bool.eq-eqb, proofs.lemmas.Bool.ne_eqb}
+use Rattle.dcd_base.specs.declared.{ids.HostId.HostId, steps.Actor.Actor, steps.LogId.LogId}
 use Rattle.fm_payloads.specs.ManagerPayloads.{manager_request}
-use Rattle.journal_core.specs.Entries.{effects}
-use Rattle.journal_core.specs.declared.acts.Act.{Act}
-use Rattle.journal_core.specs.declared.entries.Entry.{Entry}
-use Rattle.journal_core.specs.declared.outcome.Effect.{Effect}
-use Rattle.extent_list.specs.media_map.specs.region_config.specs.Configurations.{Configuration}
-use Rattle.extent_list.specs.media_map.specs.region_config.specs.Soundness.{IsSound}
-use Rattle.device_rules.specs.Pictures.{picture_of}
-use Rattle.device_rules.specs.Standing.{Sound}
-use Rattle.device_rules.proofs.LegalSound.{legal_is_sound}
-use Rattle.device_rules.specs.Answers.{scrubbed, zeroes}
-use Rattle.device_rules.specs.Legal.{Legal, Meets, right_answer}
-use Rattle.device_rules.specs.Logs.{log_of}
-use Rattle.device_rules.specs.Views.{View, view_of}
-use Rattle.device_rules.proofs.EffectKinds.{zeroes_pass}
-use Rattle.device_rules.proofs.LegalLogs.{legal_logs}
-use Rattle.device_rules.proofs.LegalSteps.{by_steps}
-use Rattle.device_rules.proofs.LogSteps.{IsSound as IsSoundLog}
-use Rattle.device_rules.proofs.ViewOthers.{answer-leaves}
-use Rattle.device_rules.proofs.ViewsLeft.{leaves_view}
-use Rattle.isolation_laws.specs.Laws.{AllSeeAlone}
-use Rattle.isolation_laws.specs.Solo.{delivered, acts_for}
-use Rattle.isolation_laws.specs.declared.items.Item.{Item}
-use Rattle.isolation_laws.proofs.ManagerSteps.{manager_brings}
-use Rattle.isolation_laws.proofs.OneItem.{BringsItems}
-use Rattle.isolation_laws.proofs.OtherSteps.{brings_nothing}
-use Rattle.isolation_laws.proofs.OwnItems.{StepsAlone, stays_alone}
-use Rattle.isolation_laws.proofs.OwnSteps.{own_step}
+use Rattle.journal_core.specs.{Entries.effects, declared.acts.Act.Act, declared.entries.Entry.Entry, declared.outcome.Effect.Effect}
+use Rattle.extent_list.specs.media_map.specs.region_config.specs.{Configurations.Configuration, Soundness.IsSound}
+use Rattle.device_rules.proofs.{EffectKinds.zeroes_pass, LegalLogs.legal_logs, LegalSound.legal_is_sound, LegalSteps.by_steps, LogSteps.IsSound as IsSoundLog, ViewOthers.answer-leaves}
+use Rattle.device_rules.{proofs.ViewsLeft.leaves_view, specs.Answers.scrubbed, specs.Answers.zeroes, specs.Legal.Legal, specs.Legal.Meets, specs.Legal.right_answer, specs.Logs.log_of}
+use Rattle.device_rules.specs.{Pictures.picture_of, Standing.Sound, Views.View, Views.view_of}
+use Rattle.isolation_laws.proofs.{ManagerSteps.manager_brings, OneItem.BringsItems, OtherSteps.brings_nothing, OwnItems.StepsAlone, OwnItems.stays_alone, OwnSteps.own_step}
+use Rattle.isolation_laws.specs.{Laws.AllSeeAlone, Solo.delivered, Solo.acts_for, declared.items.Item.Item}
 
 -- the items of a step of this actor, with these effects
 abbrev items_by : HostId → Actor → Act → List Effect → List Item

@@ -1,33 +1,19 @@
 -- The manager sets a block size: each host's view is then the one that it has alone, told of it.
 use Rattle.std.proofs.Common.{◌≡◌, ℕ, zero, suc, ◌+◌, ◌<◌, ◌≤◌, Bool, true, false, ◌&&◌, List, [], ◌∷◌, ◌++◌, Some, None, length, inl, inr, refl, sym, ap, subst, ◌∙◌, arith}
+use Rattle.std.{proofs.lemmas.Bool.cases_eq, proofs.lemmas.Bool.eq-eqb, proofs.lemmas.Bool.ne_eqb, proofs.lemmas.List.Sums.fold-append, specs.List.cons_option, specs.List.range_with_len}
 use Rattle.std.specs.Prelude.{fold, map, nat_lt, if◌then◌else◌, ◌==◌}
-use Rattle.std.specs.List.{cons_option, range_with_len}
-use Rattle.std.proofs.lemmas.Bool.{cases_eq, eq-eqb, ne_eqb}
-use Rattle.std.proofs.lemmas.List.Sums.{fold-append}
-use Rattle.dcd_base.specs.declared.ids.HostId.{HostId}
-use Rattle.dcd_base.specs.declared.steps.LogId.{LogId}
-use Rattle.extent_list.specs.dcd_codes.specs.Rules.{first_by}
-use Rattle.event_log.specs.Logs.{Log, next_handle, recorded, room_in}
-use Rattle.event_records.specs.Records.{kind_number}
-use Rattle.event_records.specs.declared.events.Event.{Event}
-use Rattle.event_records.specs.declared.events.EventKind.{EventKind}
-use Rattle.journal_core.specs.declared.outcome.Effect.{Effect}
-use Rattle.extent_list.specs.media_map.specs.region_config.specs.Configurations.{Configuration}
+use Rattle.dcd_base.specs.declared.{ids.HostId.HostId, steps.LogId.LogId}
+use Rattle.extent_list.specs.{dcd_codes.specs.Rules.first_by, media_map.specs.region_config.specs.Configurations.Configuration}
 use Rattle.extent_list.specs.media_map.specs.region_config.specs.Granules.{hosts_of, is_supported, region_spec}
+use Rattle.event_log.specs.Logs.{Log, next_handle, recorded, room_in}
+use Rattle.event_records.specs.{Records.kind_number, declared.events.Event.Event, declared.events.EventKind.EventKind}
+use Rattle.journal_core.specs.declared.outcome.Effect.{Effect}
 use Rattle.selection.proofs.Prescribed.{neither}
-use Rattle.device_rules.specs.Logs.{log_after, log_of}
-use Rattle.device_rules.specs.Outcomes.{Outcome, effects_of, entered, entered_all, log_full, no_extent, record_for}
-use Rattle.device_rules.specs.Settings.{set_outcome}
-use Rattle.device_rules.specs.Views.{View, view_after}
-use Rattle.device_rules.proofs.LogHistories.{entered_all-other, told as records_for}
-use Rattle.device_rules.proofs.LogOutcomes.{room_for}
-use Rattle.device_rules.proofs.LogSteps.{IsSound, entered_all-room}
-use Rattle.isolation_laws.specs.Solo.{extents_recorded, told_by, with_log_records}
-use Rattle.isolation_laws.specs.declared.items.Item.{Item}
-use Rattle.isolation_laws.proofs.JoinedViews.{view_after-told}
-use Rattle.isolation_laws.proofs.OneItem.{BringsItems}
-use Rattle.isolation_laws.proofs.OtherSteps.{BringsAlone}
-use Rattle.isolation_laws.proofs.RecordItems.{blocks_outcome, delivered_is, told_outcome}
+use Rattle.device_rules.proofs.{LogHistories.entered_all-other, LogHistories.told as records_for, LogOutcomes.room_for, LogSteps.IsSound, LogSteps.entered_all-room}
+use Rattle.device_rules.specs.{Logs.log_after, Logs.log_of, Outcomes.Outcome, Outcomes.effects_of, Outcomes.entered, Outcomes.entered_all, Outcomes.log_full, Outcomes.no_extent, Outcomes.record_for}
+use Rattle.device_rules.specs.{Settings.set_outcome, Views.View, Views.view_after}
+use Rattle.isolation_laws.proofs.{JoinedViews.view_after-told, OneItem.BringsItems, OtherSteps.BringsAlone, RecordItems.blocks_outcome, RecordItems.delivered_is, RecordItems.told_outcome}
+use Rattle.isolation_laws.specs.{Solo.extents_recorded, Solo.told_by, Solo.with_log_records, declared.items.Item.Item}
 
 -- ---- a record for each host
 

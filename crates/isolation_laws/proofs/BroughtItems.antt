@@ -1,16 +1,10 @@
 -- What others bring a host is none of its own acts.
 use Rattle.std.proofs.Common.{◌≡◌, Bool, true, false, ◌&&◌, List, [], ◌∷◌, ◌++◌, refl, ap, ◌∙◌}
-use Rattle.std.specs.Prelude.{filter_map}
-use Rattle.std.specs.List.{list_all}
-use Rattle.std.proofs.lemmas.Bool.{eqb-true, false≢true}
-use Rattle.std.proofs.lemmas.List.Folds.{list_all-append}
-use Rattle.dcd_base.specs.declared.capacity.Extent.{Extent}
-use Rattle.dcd_base.specs.declared.ids.HostId.{HostId}
-use Rattle.dcd_base.specs.declared.steps.Actor.{Actor}
+use Rattle.std.{specs.Prelude.filter_map, specs.List.list_all, proofs.lemmas.Bool.eqb-true, proofs.lemmas.Bool.false≢true, proofs.lemmas.List.Folds.list_all-append}
+use Rattle.dcd_base.specs.declared.{capacity.Extent.Extent, ids.HostId.HostId, steps.Actor.Actor}
 use Rattle.event_records.specs.declared.events.EventKind.{EventKind}
 use Rattle.journal_core.specs.declared.outcome.Effect.{Effect}
-use Rattle.isolation_laws.specs.Solo.{block_item, delivered, acts_for, item_of, extents_recorded}
-use Rattle.isolation_laws.specs.declared.items.Item.{Item}
+use Rattle.isolation_laws.specs.{Solo.block_item, Solo.delivered, Solo.acts_for, Solo.item_of, Solo.extents_recorded, declared.items.Item.Item}
 
 -- whoever is the host
 pub actor_is : (h : HostId) (actor : Actor) → acts_for h actor ≡ true → actor ≡ Actor.Host h

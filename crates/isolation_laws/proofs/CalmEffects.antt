@@ -1,15 +1,9 @@
 -- Effects by which nothing is offered, taken or zeroed: a granule is held and offered after them only where it was before.
 use Rattle.std.proofs.Common.{◌≡◌, ℕ, Bool, true, false, ◌&&◌, ◌==◌, List, [], ◌∷◌, drop, refl}
-use Rattle.std.specs.Prelude.{fold, if◌then◌else◌}
-use Rattle.std.specs.List.{list_all, list_any}
-use Rattle.std.proofs.lemmas.Bool.{and_parts, false≢true, or_right}
-use Rattle.dcd_base.specs.Words.{has_granule}
-use Rattle.dcd_base.specs.declared.capacity.Extent.{Extent}
-use Rattle.dcd_base.specs.declared.ids.HostId.{HostId}
-use Rattle.journal_core.specs.Holders.{holding_after, taking_after}
-use Rattle.journal_core.specs.declared.outcome.Effect.{Effect}
-use Rattle.device_rules.specs.Hosts.{offers_after}
-use Rattle.device_rules.proofs.Leaving.{over-leaving}
+use Rattle.std.{specs.Prelude.fold, specs.Prelude.if◌then◌else◌, specs.List.list_all, specs.List.list_any, proofs.lemmas.Bool.and_parts, proofs.lemmas.Bool.false≢true, proofs.lemmas.Bool.or_right}
+use Rattle.dcd_base.specs.{Words.has_granule, declared.capacity.Extent.Extent, declared.ids.HostId.HostId}
+use Rattle.journal_core.specs.{Holders.holding_after, Holders.taking_after, declared.outcome.Effect.Effect}
+use Rattle.device_rules.{specs.Hosts.offers_after, proofs.Leaving.over-leaving}
 use Rattle.isolation_laws.specs.Laws.{Writers, writers_by}
 
 -- no offer, and nothing taken or zeroed

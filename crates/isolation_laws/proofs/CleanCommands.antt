@@ -1,57 +1,27 @@
 -- Each step of a legal journal keeps a granule clean, command by command.
 use Rattle.std.proofs.Common.{◌≡◌, ℕ, ◌%◌, ◌<◌, true, false, List, [], ◌∷◌, ◌++◌, length, map, None, refl, sym, ap, subst, ◌∙◌}
-use Rattle.std.specs.Prelude.{flat_map}
-use Rattle.std.specs.List.{AllByRecursion, list_all}
-use Rattle.dcd_base.specs.Words.{has_granule}
-use Rattle.dcd_base.specs.declared.capacity.Extent.{Extent}
-use Rattle.dcd_base.specs.declared.capacity.Tag.{Tag}
-use Rattle.dcd_base.specs.declared.ids.HostId.{HostId}
-use Rattle.dcd_base.specs.declared.steps.LogId.{LogId}
-use Rattle.extent_list.specs.ExtentLists.{is_in, marked}
+use Rattle.std.specs.{Prelude.flat_map, List.AllByRecursion, List.list_all}
+use Rattle.dcd_base.specs.{Words.has_granule, declared.capacity.Extent.Extent, declared.capacity.Tag.Tag, declared.ids.HostId.HostId, declared.steps.LogId.LogId}
+use Rattle.extent_list.specs.{ExtentLists.is_in, ExtentLists.marked, Listing.too_many_listed, media_map.specs.Places.region_at, media_map.specs.Places.run_of}
+use Rattle.extent_list.specs.media_map.specs.region_config.specs.{Configurations.Configuration, Granules.granule_size, Granules.region_of, Granules.region_spec, Granules.with_blocks}
+use Rattle.extent_list.specs.media_map.specs.region_config.specs.Soundness.{IsSound}
 use Rattle.fm_payloads.specs.declared.requests.FmRequest.{FmRequest}
 use Rattle.host_payloads.specs.declared.requests.HostRequest.{HostRequest}
-use Rattle.journal_core.specs.Entries.{effects}
-use Rattle.journal_core.specs.declared.entries.Entry.{Entry}
-use Rattle.journal_core.specs.declared.outcome.Effect.{Effect}
-use Rattle.journal_core.specs.declared.outcome.HeldKind.{HeldKind}
-use Rattle.extent_list.specs.Listing.{too_many_listed}
-use Rattle.extent_list.specs.media_map.specs.Places.{region_at, run_of}
-use Rattle.offer_core.specs.Offerings.{oldest_of}
-use Rattle.offer_core.specs.Responses.{response_list_rule, respond_rule}
-use Rattle.extent_list.specs.media_map.specs.region_config.specs.Configurations.{Configuration}
-use Rattle.extent_list.specs.media_map.specs.region_config.specs.Granules.{granule_size, region_of, region_spec, with_blocks}
-use Rattle.extent_list.specs.media_map.specs.region_config.specs.Soundness.{IsSound}
-use Rattle.device_rules.specs.Pictures.{Picture, extents_at, picture_of}
-use Rattle.device_rules.specs.Standing.{IsHome, IsMade, Sound, Stands}
-use Rattle.device_rules.proofs.Adding.{added, row_of}
-use Rattle.device_rules.proofs.CutSteps.{in_has}
-use Rattle.device_rules.proofs.Holding.{home_made, present_whole}
-use Rattle.device_rules.proofs.Homes.{made_of_region}
-use Rattle.device_rules.proofs.ListSteps.{any-map, each-at, each-back, each-both, each-change, each-front}
-use Rattle.device_rules.proofs.OneOffer.{reaches}
-use Rattle.selection.proofs.Prescribed.{neither}
-use Rattle.device_rules.proofs.Responding.{answer_of}
-use Rattle.device_rules.specs.Adding.{add_outcome, add_rule, offered}
-use Rattle.device_rules.specs.Answers.{host_outcome, host_rule, manager_outcome, manager_rule}
-use Rattle.device_rules.specs.EventCommands.{clear_outcome}
-use Rattle.device_rules.specs.Hosts.{offers_of}
-use Rattle.device_rules.specs.Invariants.{Holdings}
-use Rattle.device_rules.specs.Legal.{Meets}
-use Rattle.device_rules.specs.Logs.{log_of}
-use Rattle.device_rules.specs.Outcomes.{Outcome, effects_of}
-use Rattle.device_rules.specs.ReleaseOutcomes.{give_back_outcome, is_cleaning, is_forced, remove_outcome, removed}
-use Rattle.device_rules.specs.ResponseOutcomes.{respond_changes, respond_outcome, unhold}
-use Rattle.device_rules.specs.Settings.{set_outcome}
-use Rattle.device_rules.specs.TagCommands.{add_reference_outcome, remove_reference_outcome}
-use Rattle.device_rules.specs.Tags.{is_referenced}
-use Rattle.device_rules.specs.Views.{View, view_of}
+use Rattle.journal_core.specs.{Entries.effects, declared.entries.Entry.Entry, declared.outcome.Effect.Effect, declared.outcome.HeldKind.HeldKind}
+use Rattle.offer_core.specs.{Offerings.oldest_of, Responses.response_list_rule, Responses.respond_rule}
+use Rattle.device_rules.proofs.{Adding.added, Adding.row_of, CutSteps.in_has}
 use Rattle.device_rules.proofs.EffectKinds.{PassClearing, PassHeld, clear_passes, hold_passes, reference_passes, removals_pass, unhold_passes}
-use Rattle.device_rules.proofs.Leaving.{both_pass, map_passes}
-use Rattle.device_rules.proofs.LegalSteps.{Cases, step_case}
-use Rattle.device_rules.proofs.RunEffects.{in_extents}
-use Rattle.device_rules.proofs.StatusOutcomes.{unhold-quiet}
-use Rattle.isolation_laws.proofs.CalmEffects.{is_calm}
-use Rattle.isolation_laws.proofs.CleanSteps.{KeepsClean, keeps_answer, keeps_calm, keeps_offer, keeps_outcome, keeps_scrub}
+use Rattle.device_rules.proofs.{Holding.home_made, Holding.present_whole, Homes.made_of_region, Leaving.both_pass, Leaving.map_passes, LegalSteps.Cases, LegalSteps.step_case}
+use Rattle.device_rules.proofs.{ListSteps.any-map, ListSteps.each-at, ListSteps.each-back, ListSteps.each-both, ListSteps.each-change, ListSteps.each-front, OneOffer.reaches, Responding.answer_of}
+use Rattle.device_rules.{proofs.RunEffects.in_extents, proofs.StatusOutcomes.unhold-quiet, specs.Adding.add_outcome, specs.Adding.add_rule, specs.Adding.offered}
+use Rattle.device_rules.specs.{Answers.host_outcome, Answers.host_rule, Answers.manager_outcome, Answers.manager_rule, EventCommands.clear_outcome, Hosts.offers_of, Invariants.Holdings, Legal.Meets}
+use Rattle.device_rules.specs.{Logs.log_of, Outcomes.Outcome, Outcomes.effects_of, Pictures.Picture, Pictures.extents_at, Pictures.picture_of}
+use Rattle.device_rules.specs.ReleaseOutcomes.{give_back_outcome, is_cleaning, is_forced, remove_outcome, removed}
+use Rattle.device_rules.specs.{ResponseOutcomes.respond_changes, ResponseOutcomes.respond_outcome, ResponseOutcomes.unhold, Settings.set_outcome}
+use Rattle.device_rules.specs.{Standing.IsHome, Standing.IsMade, Standing.Sound, Standing.Stands, TagCommands.add_reference_outcome, TagCommands.remove_reference_outcome, Tags.is_referenced}
+use Rattle.device_rules.specs.Views.{View, view_of}
+use Rattle.selection.proofs.Prescribed.{neither}
+use Rattle.isolation_laws.proofs.{CalmEffects.is_calm, CleanSteps.KeepsClean, CleanSteps.keeps_answer, CleanSteps.keeps_calm, CleanSteps.keeps_offer, CleanSteps.keeps_outcome, CleanSteps.keeps_scrub}
 use Rattle.isolation_laws.proofs.OfferedFree.{free_untaken, offered_free}
 
 calm_lists : (h : HostId) → PassHeld is_calm h

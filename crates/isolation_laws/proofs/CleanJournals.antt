@@ -1,38 +1,18 @@
 -- After every legal journal each granule is clean.
 use Rattle.std.proofs.Common.{◌≡◌, ℕ, Bool, true, false, ◌&&◌, ◌||◌, not, ◌==◌, List, [], ◌∷◌, ◌++◌, inl, inr, refl, sym, ap, subst, ◌∙◌}
-use Rattle.std.specs.Prelude.{fold, if◌then◌else◌, IsTrue}
-use Rattle.std.specs.List.{list_all, list_any}
-use Rattle.std.proofs.lemmas.Bool.{cases_Bool, eq-eqb, false≢true, or_cases, or_parts}
-use Rattle.std.proofs.lemmas.List.Folds.{list_all-append}
-use Rattle.std.proofs.lemmas.List.Sums.{fold_push}
-use Rattle.dcd_base.specs.Words.{has_granule}
-use Rattle.dcd_base.specs.declared.ids.HostId.{HostId}
-use Rattle.journal_core.proofs.HoldingSteps.{holds-append, is_taken-append}
-use Rattle.journal_core.proofs.JournalSteps.{effects-push}
-use Rattle.journal_core.specs.Entries.{effects}
-use Rattle.journal_core.specs.Holders.{holding_after, holds, is_soiled, is_taken, taking_after}
-use Rattle.journal_core.specs.declared.entries.Entry.{Entry}
-use Rattle.journal_core.specs.declared.outcome.Effect.{Effect}
-use Rattle.extent_list.specs.media_map.specs.region_config.specs.Configurations.{Configuration}
-use Rattle.extent_list.specs.media_map.specs.region_config.specs.Granules.{hosts_of, region_of, region_spec}
-use Rattle.extent_list.specs.media_map.specs.region_config.specs.Soundness.{IsSound}
-use Rattle.device_rules.specs.Pictures.{picture_of}
+use Rattle.std.proofs.lemmas.{Bool.cases_Bool, Bool.eq-eqb, Bool.false≢true, Bool.or_cases, Bool.or_parts, List.Folds.list_all-append, List.Sums.fold_push}
+use Rattle.std.specs.{List.list_all, List.list_any, Prelude.fold, Prelude.if◌then◌else◌, Prelude.IsTrue}
+use Rattle.dcd_base.specs.{Words.has_granule, declared.ids.HostId.HostId}
+use Rattle.journal_core.{proofs.HoldingSteps.holds-append, proofs.HoldingSteps.is_taken-append, proofs.JournalSteps.effects-push, specs.Entries.effects}
+use Rattle.journal_core.specs.{Holders.holding_after, Holders.holds, Holders.is_soiled, Holders.is_taken, Holders.taking_after, declared.entries.Entry.Entry, declared.outcome.Effect.Effect}
+use Rattle.extent_list.specs.media_map.specs.region_config.specs.{Configurations.Configuration, Granules.hosts_of, Granules.region_of, Granules.region_spec, Soundness.IsSound}
+use Rattle.device_rules.proofs.{ExclusiveHolding.legal_holdings, HoldersApart.alone_holds, LegalSound.legal_is_sound, LegalSteps.by_steps, ListSteps.each-all, ListSteps.each-at}
+use Rattle.device_rules.specs.{GranuleStates.is_granule_offered, Invariants.Holdings, Legal.Legal, Legal.Meets, Legal.is_zeroing, Legal.word_after, Legal.word_by, Legal.word_of, Pictures.picture_of}
 use Rattle.device_rules.specs.Standing.{Sound}
-use Rattle.device_rules.proofs.ExclusiveHolding.{legal_holdings}
-use Rattle.device_rules.proofs.LegalSound.{legal_is_sound}
-use Rattle.device_rules.proofs.ListSteps.{each-all, each-at}
-use Rattle.device_rules.specs.Invariants.{Holdings}
-use Rattle.device_rules.specs.Legal.{Legal, Meets, is_zeroing, word_after, word_by, word_of}
 use Rattle.device_rules.specs.Tags.{Dirty, Free, Held, Offered, Tagged, is_free, is_held, is_offered, is_tagged, status}
-use Rattle.device_rules.specs.GranuleStates.{is_granule_offered}
-use Rattle.device_rules.proofs.HoldersApart.{alone_holds}
-use Rattle.device_rules.proofs.LegalSteps.{by_steps}
+use Rattle.isolation_laws.proofs.{CleanCommands.step_keeps, CleanSteps.HeldTaken, CleanSteps.IsSwept, CleanSteps.KeepsClean, CleanSteps.OfferedUntaken, OfferedFree.free_untaken}
+use Rattle.isolation_laws.proofs.{Stores.Stores, Stores.entry_stores, WritersOver.IsOwn, WritersOver.nobody, WritersOver.untaken_over}
 use Rattle.isolation_laws.specs.Laws.{Clean, Writers, is_offered_status, stores_in, writers_after, writers_by, writers_of}
-use Rattle.isolation_laws.proofs.CleanCommands.{step_keeps}
-use Rattle.isolation_laws.proofs.CleanSteps.{HeldTaken, IsSwept, KeepsClean, OfferedUntaken}
-use Rattle.isolation_laws.proofs.OfferedFree.{free_untaken}
-use Rattle.isolation_laws.proofs.Stores.{Stores, entry_stores}
-use Rattle.isolation_laws.proofs.WritersOver.{IsOwn, nobody, untaken_over}
 
 -- What is carried over the journal: of each granule, whether it was taken, and who has stored into it.
 record StaysClean (c : Configuration) (journal : List Entry) : Type 0 where

@@ -1,49 +1,26 @@
 -- What keeps a granule clean: effects by which nothing is taken, an offer of what is free, an answer to one, and a scrub.
 use Rattle.std.proofs.Common.{◌≡◌, ℕ, ◌<◌, Bool, true, false, ◌&&◌, ◌||◌, not, ◌==◌, List, [], ◌∷◌, ◌++◌, inl, inr, refl, sym, ap, subst, ◌∙◌, arith}
-use Rattle.std.specs.Prelude.{fold, map, flat_map}
-use Rattle.std.specs.List.{list_all, list_any, range_with_len}
+use Rattle.std.{specs.Prelude.fold, specs.Prelude.map, specs.Prelude.flat_map, specs.List.list_all, specs.List.list_any, specs.List.range_with_len, proofs.lemmas.List.Folds.list_any-append}
 use Rattle.std.proofs.lemmas.Bool.{and_parts, cases_Bool, cases_lt, eqb-true, false≢true, false_from_ne_true, or_cases, or_left, or_right}
-use Rattle.std.proofs.lemmas.List.Folds.{list_any-append}
-use Rattle.dcd_base.specs.Words.{has_granule, has_in_runs}
-use Rattle.dcd_base.specs.declared.capacity.Extent.{Extent}
-use Rattle.dcd_base.specs.declared.ids.HostId.{HostId}
+use Rattle.dcd_base.specs.{Words.has_granule, Words.has_in_runs, declared.capacity.Extent.Extent, declared.ids.HostId.HostId}
 use Rattle.granule_map.specs.Choices.{joined}
-use Rattle.journal_core.proofs.HoldingSteps.{holds-append, holds-push, is_taken-append, is_taken-push}
-use Rattle.journal_core.specs.Entries.{effects}
-use Rattle.journal_core.specs.Holders.{holding_after, holds, is_soiled, is_taken, taking_after}
-use Rattle.journal_core.specs.declared.entries.Entry.{Entry}
-use Rattle.journal_core.specs.declared.outcome.Effect.{Effect}
-use Rattle.extent_list.specs.media_map.specs.Places.{run_of}
+use Rattle.journal_core.{proofs.HoldingSteps.holds-append, proofs.HoldingSteps.holds-push, proofs.HoldingSteps.is_taken-append, proofs.HoldingSteps.is_taken-push, specs.Entries.effects}
+use Rattle.journal_core.specs.{Holders.holding_after, Holders.holds, Holders.is_soiled, Holders.is_taken, Holders.taking_after, declared.entries.Entry.Entry, declared.outcome.Effect.Effect}
+use Rattle.extent_list.{proofs.EachTag.or_false, specs.media_map.specs.Places.run_of, specs.media_map.specs.region_config.specs.Configurations.Configuration}
+use Rattle.extent_list.specs.media_map.specs.region_config.specs.{Granules.region_of, Granules.region_spec, Granules.same_region, Soundness.IsSound}
 use Rattle.offer_core.specs.Offerings.{oldest_of}
-use Rattle.extent_list.specs.media_map.specs.region_config.specs.Configurations.{Configuration}
-use Rattle.extent_list.specs.media_map.specs.region_config.specs.Granules.{region_of, region_spec, same_region}
-use Rattle.extent_list.specs.media_map.specs.region_config.specs.Soundness.{IsSound}
-use Rattle.device_rules.specs.Pictures.{Picture, picture_of}
-use Rattle.device_rules.specs.Standing.{Stands}
-use Rattle.device_rules.proofs.FreeGranules.{shared_claim}
-use Rattle.device_rules.proofs.ListSteps.{any-map}
-use Rattle.device_rules.proofs.OneOffer.{any-implies}
-use Rattle.device_rules.specs.Answers.{scrubbed, zeroes}
-use Rattle.device_rules.specs.Hosts.{offers_after, offers_of}
-use Rattle.device_rules.specs.Invariants.{Holdings}
-use Rattle.device_rules.specs.Outcomes.{Outcome, effects_of}
-use Rattle.device_rules.specs.Tags.{dirty_granules, all_granules, is_dirty, is_held, is_offered, is_tagged, open_tags, status}
-use Rattle.device_rules.specs.GranuleStates.{is_granule_offered, stands_for}
-use Rattle.device_rules.proofs.HostSearches.{any_at}
-use Rattle.extent_list.proofs.EachTag.{or_false}
-use Rattle.device_rules.proofs.JoinedRuns.{any_taken, joined_has, passes_there}
-use Rattle.device_rules.proofs.Leaving.{after_front, holding-over, is_quiet, leaves_holders, leaves_offers, map_passes}
-use Rattle.device_rules.proofs.OutcomeSteps.{after-outcome, over-outcome}
-use Rattle.device_rules.proofs.RunEffects.{in_extents, run_from, takes, zeros}
+use Rattle.device_rules.proofs.{FreeGranules.shared_claim, HostSearches.any_at, JoinedRuns.any_taken, JoinedRuns.joined_has, JoinedRuns.passes_there}
+use Rattle.device_rules.proofs.{Leaving.after_front, Leaving.holding-over, Leaving.is_quiet, Leaving.leaves_holders, Leaving.leaves_offers, Leaving.map_passes, ListSteps.any-map, OneOffer.any-implies}
+use Rattle.device_rules.proofs.{OutcomeSteps.after-outcome, OutcomeSteps.over-outcome, RunEffects.in_extents, RunEffects.run_from, RunEffects.takes, RunEffects.zeros}
 use Rattle.device_rules.proofs.StatusAnswers.{answering, holds-answer, not_offered-answer, offers-answer, taken-answer}
-use Rattle.device_rules.proofs.StatusKept.{no_later_offer, no_other_offer}
-use Rattle.device_rules.proofs.StatusOffers.{is_granule_offered-offer}
-use Rattle.device_rules.proofs.StatusParts.{held_status, offers_of-append, offers_of-left, status_is, tagged_status}
-use Rattle.device_rules.proofs.StatusZeros.{taken-zeros}
-use Rattle.device_rules.proofs.TagSearches.{any_of_tag}
-use Rattle.isolation_laws.specs.Laws.{Writers, writers_by}
+use Rattle.device_rules.proofs.{StatusKept.no_later_offer, StatusKept.no_other_offer, StatusOffers.is_granule_offered-offer}
+use Rattle.device_rules.proofs.{StatusParts.held_status, StatusParts.offers_of-append, StatusParts.offers_of-left, StatusParts.status_is, StatusParts.tagged_status, StatusZeros.taken-zeros}
+use Rattle.device_rules.{proofs.TagSearches.any_of_tag, specs.Answers.scrubbed, specs.Answers.zeroes, specs.GranuleStates.is_granule_offered, specs.GranuleStates.stands_for}
+use Rattle.device_rules.specs.{Hosts.offers_after, Hosts.offers_of, Invariants.Holdings, Outcomes.Outcome, Outcomes.effects_of, Pictures.Picture, Pictures.picture_of, Standing.Stands}
+use Rattle.device_rules.specs.Tags.{dirty_granules, all_granules, is_dirty, is_held, is_offered, is_tagged, open_tags, status}
 use Rattle.isolation_laws.proofs.CalmEffects.{calm_held, calm_offered, calm_taken, calm_writers, in_later, is_calm}
 use Rattle.isolation_laws.proofs.WritersOver.{IsOwn, nobody, nobody_over, other_takes, own_zeros}
+use Rattle.isolation_laws.specs.Laws.{Writers, writers_by}
 
 -- who holds the granule took it since it was zeroed
 abbrev pub HeldTaken : ℕ → List Effect → Type 0

@@ -1,32 +1,17 @@
 -- A host holds a place exactly where one of its accepted extents has the address.
 use Rattle.std.proofs.Common.{◌≡◌, ℕ, suc, ◌+◌, ◌-◌, ◌*◌, ◌/◌, ◌%◌, ◌<◌, ◌≤◌, Bool, true, false, ◌&&◌, ◌||◌, length, List, [], ◌∷◌, Option, Some, None, Result, Ok, Err, inl, inr, refl, sym, ap, subst, ◌∙◌, arith, leb, ltb, div-add-mod'}
+use Rattle.std.proofs.{Math.Nat.mul-le-mul_right, lemmas.Bool.and_parts, lemmas.Bool.cases_lt, lemmas.Bool.eqb-true, lemmas.Bool.le-leb, lemmas.Bool.leb-true, lemmas.Bool.lt-ltb, lemmas.Bool.ltb-true}
+use Rattle.std.{proofs.lemmas.Nat.mod_below, specs.Cmp.both_ways, specs.List.AllByRecursion, specs.List.find, specs.List.list_any}
 use Rattle.std.specs.Prelude.{flat_map, ◌==◌, if◌then◌else◌}
-use Rattle.std.specs.Cmp.{both_ways}
-use Rattle.std.specs.List.{AllByRecursion, find, list_any}
-use Rattle.std.proofs.lemmas.Bool.{and_parts, cases_lt, eqb-true, le-leb, leb-true, lt-ltb, ltb-true}
-use Rattle.std.proofs.lemmas.Nat.{mod_below}
-use Rattle.std.proofs.Math.Nat.{mul-le-mul_right}
-use Rattle.dcd_base.specs.Words.{has_granule}
-use Rattle.dcd_base.specs.declared.capacity.Extent.{Extent}
-use Rattle.dcd_base.specs.declared.failures.AccessFault.{AccessFault}
-use Rattle.dcd_base.specs.declared.ids.HostId.{HostId}
-use Rattle.dcd_base.specs.declared.media.Place.{Place}
-use Rattle.journal_core.specs.Holders.{holds}
-use Rattle.journal_core.specs.declared.outcome.Effect.{Effect}
+use Rattle.dcd_base.specs.{Words.has_granule, declared.capacity.Extent.Extent, declared.failures.AccessFault.AccessFault, declared.ids.HostId.HostId, declared.media.Place.Place}
+use Rattle.journal_core.specs.{Holders.holds, declared.outcome.Effect.Effect}
+use Rattle.extent_list.specs.media_map.proofs.{PlaceLemmas.find_holds, PlaceLemmas.has, PlaceLemmas.is_place, PlaceLemmas.is_word, RunLemmas.region_at_is}
 use Rattle.extent_list.specs.media_map.specs.Places.{IsPlace, has_address, locate, place_in, placed, region_at, run_of}
-use Rattle.extent_list.specs.media_map.proofs.PlaceLemmas.{find_holds, has, is_place, is_word}
-use Rattle.extent_list.specs.media_map.proofs.RunLemmas.{region_at_is}
-use Rattle.extent_list.specs.media_map.specs.region_config.specs.Configurations.{Configuration}
-use Rattle.extent_list.specs.media_map.specs.region_config.specs.Granules.{base_of, first_granule, granule_size, region_of, regions_of}
-use Rattle.extent_list.specs.media_map.specs.region_config.specs.Soundness.{IsSound}
-use Rattle.extent_list.specs.media_map.specs.region_config.proofs.Faultless.{granule_from}
-use Rattle.extent_list.specs.media_map.specs.region_config.proofs.GranuleLemmas.{region_is}
-use Rattle.device_rules.specs.Hosts.{accepted_of}
-use Rattle.device_rules.specs.Pictures.{Picture, picture_of}
+use Rattle.extent_list.specs.media_map.specs.region_config.{proofs.Faultless.granule_from, proofs.GranuleLemmas.region_is, specs.Configurations.Configuration}
+use Rattle.extent_list.specs.media_map.specs.region_config.specs.{Granules.base_of, Granules.first_granule, Granules.granule_size, Granules.region_of, Granules.regions_of, Soundness.IsSound}
+use Rattle.device_rules.proofs.{Holding.home_made, Holding.present_whole, Homes.made_begins, Homes.made_long, Homes.made_of_region, Homes.made_run}
+use Rattle.device_rules.{proofs.ListSteps.any-map, proofs.ListSteps.each-change, proofs.ListSteps.each-front, specs.Hosts.accepted_of, specs.Pictures.Picture, specs.Pictures.picture_of}
 use Rattle.device_rules.specs.Standing.{IsHome, IsMade, Stands}
-use Rattle.device_rules.proofs.Holding.{home_made, present_whole}
-use Rattle.device_rules.proofs.Homes.{made_begins, made_long, made_of_region, made_run}
-use Rattle.device_rules.proofs.ListSteps.{any-map, each-change, each-front}
 use Rattle.isolation_laws.specs.Solo.{has_byte}
 
 -- what is located is the place

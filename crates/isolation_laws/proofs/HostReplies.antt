@@ -1,32 +1,15 @@
 -- What a host is replied is what it would be replied alone.
 use Rattle.std.proofs.Common.{◌≡◌, ℕ, ◌<◌, Bool, true, false, ◌&&◌, not, List, Result, Ok, Err, refl, sym, ap, subst, ◌∙◌}
-use Rattle.std.specs.Prelude.{IsTrue, if◌then◌else◌}
-use Rattle.std.specs.List.{list_any}
-use Rattle.std.proofs.lemmas.Bool.{false≢true, ltb-true}
-use Rattle.dcd_base.specs.declared.failures.AccessFault.{AccessFault}
-use Rattle.dcd_base.specs.declared.ids.HostId.{HostId}
-use Rattle.dcd_base.specs.declared.media.Place.{Place}
-use Rattle.dcd_base.specs.declared.steps.Actor.{Actor}
-use Rattle.journal_core.specs.Entries.{effects, fits}
-use Rattle.journal_core.specs.Holders.{holds}
-use Rattle.journal_core.specs.declared.acts.Act.{Act}
-use Rattle.journal_core.specs.declared.acts.Reply.{Reply}
+use Rattle.std.{specs.Prelude.IsTrue, specs.Prelude.if◌then◌else◌, specs.List.list_any, proofs.lemmas.Bool.false≢true, proofs.lemmas.Bool.ltb-true}
+use Rattle.dcd_base.specs.declared.{failures.AccessFault.AccessFault, ids.HostId.HostId, media.Place.Place, steps.Actor.Actor}
+use Rattle.journal_core.{proofs.EachSteps.Each-push, specs.Entries.effects, specs.Entries.fits, specs.Holders.holds, specs.declared.acts.Act.Act, specs.declared.acts.Reply.Reply}
 use Rattle.journal_core.specs.declared.entries.Entry.{Entry}
-use Rattle.journal_core.proofs.EachSteps.{Each-push}
-use Rattle.extent_list.specs.media_map.specs.Places.{locate}
-use Rattle.extent_list.specs.media_map.specs.region_config.specs.Configurations.{Configuration}
-use Rattle.extent_list.specs.media_map.specs.region_config.specs.Granules.{region_spec}
-use Rattle.extent_list.specs.media_map.specs.region_config.specs.Soundness.{IsSound}
-use Rattle.device_rules.proofs.LegalSound.{legal_is_sound}
-use Rattle.device_rules.specs.Answers.{host_result_in, reply_with}
+use Rattle.extent_list.specs.media_map.specs.{Places.locate, region_config.specs.Configurations.Configuration, region_config.specs.Granules.region_spec, region_config.specs.Soundness.IsSound}
+use Rattle.device_rules.{proofs.LegalSound.legal_is_sound, proofs.LegalSteps.by_steps, specs.Answers.host_result_in, specs.Answers.reply_with}
 use Rattle.device_rules.specs.Legal.{Legal, access_at, granted_reply, right_answer, word_of}
-use Rattle.device_rules.proofs.LegalSteps.{by_steps}
-use Rattle.isolation_laws.specs.Laws.{SeesAlone}
-use Rattle.isolation_laws.specs.Solo.{Agrees, AgreesAlone, Isolated, has_byte, own_items, solo, solo_access, solo_granted, solo_load, solo_view, solo_word}
-use Rattle.isolation_laws.specs.declared.items.Item.{Item}
+use Rattle.isolation_laws.{proofs.AllSee.all_see_alone, proofs.GrantedPlaces.held_has, proofs.GrantedPlaces.place_of, specs.Laws.SeesAlone, specs.declared.items.Item.Item}
 use Rattle.isolation_laws.specs.declared.items.SoloReply.{SoloReply}
-use Rattle.isolation_laws.proofs.AllSee.{all_see_alone}
-use Rattle.isolation_laws.proofs.GrantedPlaces.{held_has, place_of}
+use Rattle.isolation_laws.specs.Solo.{Agrees, AgreesAlone, Isolated, has_byte, own_items, solo, solo_access, solo_granted, solo_load, solo_view, solo_word}
 
 -- Where a host holds a place of a region that is sanitized and not shared, the word is the one that it has alone.
 abbrev pub HasOwnWords : Configuration → HostId → List Entry → Type 0

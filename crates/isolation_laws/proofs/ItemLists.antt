@@ -1,8 +1,6 @@
 -- Items entry by entry, and what effects bring a host effect by effect.
 use Rattle.std.proofs.Common.{◌≡◌, ℕ, ◌+◌, ◌<◌, List, [], ◌∷◌, ◌++◌, length, take, get_or, Option, sym, ap, ◌∙◌, append_assoc}
-use Rattle.std.specs.Prelude.{filter_map}
-use Rattle.std.proofs.lemmas.List.{take_more}
-use Rattle.std.proofs.lemmas.List.Elements.{filter_map-append}
+use Rattle.std.{specs.Prelude.filter_map, proofs.lemmas.List.take_more, proofs.lemmas.List.Elements.filter_map-append}
 
 -- one more element
 pub filtered_more : {X Y : Type 0} (f : X → Option Y) (xs : List X) (i : ℕ) (x : X) (before old new : List Y) → i < length xs → x ≡ get_or xs i x →

@@ -1,29 +1,18 @@
 -- The view after the effects of a command: what its changes make of it, and the records behind them.
 use Rattle.std.proofs.Common.{◌≡◌, ◌+◌, Bool, true, false, ◌&&◌, ◌||◌, not, List, [], ◌∷◌, ◌++◌, refl, sym, ap, ◌∙◌}
-use Rattle.std.specs.Prelude.{fold, map, if◌then◌else◌, ◌==◌}
-use Rattle.std.specs.List.{list_all, list_any}
-use Rattle.std.proofs.lemmas.Bool.{and_parts, false≢true, not-true}
-use Rattle.std.proofs.lemmas.List.Folds.{list_any-append}
-use Rattle.std.proofs.lemmas.List.Sums.{fold-append}
-use Rattle.dcd_base.specs.Words.{is_empty}
-use Rattle.dcd_base.specs.declared.ids.HostId.{HostId}
-use Rattle.dcd_base.specs.declared.steps.LogId.{LogId}
+use Rattle.std.proofs.lemmas.{Bool.and_parts, Bool.false≢true, Bool.not-true, List.Folds.list_any-append, List.Sums.fold-append}
+use Rattle.std.specs.{List.list_all, List.list_any, Prelude.fold, Prelude.map, Prelude.if◌then◌else◌, Prelude.◌==◌}
+use Rattle.dcd_base.specs.{Words.is_empty, declared.ids.HostId.HostId, declared.steps.LogId.LogId}
 use Rattle.event_log.specs.Logs.{Log, logged}
 use Rattle.event_records.specs.declared.events.Event.{Event}
-use Rattle.journal_core.specs.declared.outcome.Effect.{Effect}
-use Rattle.journal_core.specs.declared.outcome.HeldKind.{HeldKind}
-use Rattle.extent_list.specs.media_map.specs.region_config.specs.Configurations.{Configuration}
-use Rattle.device_rules.specs.Hosts.{accepted_after, block_after, held_after, moves, offers_after}
-use Rattle.device_rules.specs.Logs.{log_after}
-use Rattle.device_rules.specs.Outcomes.{Outcome, effects_of, ended}
-use Rattle.device_rules.specs.Views.{View, view_after}
-use Rattle.device_rules.proofs.EffectKinds.{any_log, tells, tells_any, told_passes}
-use Rattle.device_rules.proofs.Leaving.{map_passes, over-leaving}
-use Rattle.device_rules.proofs.LogHistories.{leaves_logs, log-left, told}
-use Rattle.device_rules.proofs.ViewCommands.{only_logs, view_after-logs}
+use Rattle.journal_core.specs.declared.outcome.{Effect.Effect, HeldKind.HeldKind}
+use Rattle.extent_list.{specs.media_map.specs.region_config.specs.Configurations.Configuration, proofs.EachTag.or_false as or_none}
+use Rattle.device_rules.proofs.{EffectKinds.any_log, EffectKinds.tells, EffectKinds.tells_any, EffectKinds.told_passes, Leaving.map_passes, Leaving.over-leaving}
+use Rattle.device_rules.proofs.{LogHistories.leaves_logs, LogHistories.log-left, LogHistories.told, ViewCommands.only_logs, ViewCommands.view_after-logs}
 use Rattle.device_rules.proofs.ViewsLeft.{is_other_log, leaves_view, others_records, view_after-left}
+use Rattle.device_rules.specs.{Hosts.accepted_after, Hosts.block_after, Hosts.held_after, Hosts.moves, Hosts.offers_after, Logs.log_after, Outcomes.Outcome, Outcomes.effects_of, Outcomes.ended}
+use Rattle.device_rules.specs.Views.{View, view_after}
 use Rattle.isolation_laws.specs.Solo.{with_log_records}
-use Rattle.extent_list.proofs.EachTag.{or_false as or_none}
 
 -- ---- two lists of effects
 

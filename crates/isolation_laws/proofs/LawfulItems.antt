@@ -1,29 +1,14 @@
 -- No legal journal brings a host an unlawful item.
 use Rattle.std.proofs.Common.{◌≡◌, ℕ, zero, suc, ◌<◌, ◌≤◌, List, [], ◌∷◌, ◌++◌, Some, length, take, inl, inr, sym, subst, arith}
-use Rattle.std.specs.Prelude.{fold, slice_get}
-use Rattle.std.proofs.lemmas.Option.{none-some, same_Some}
-use Rattle.dcd_base.specs.declared.ids.HostId.{HostId}
-use Rattle.dcd_base.specs.declared.steps.LogId.{LogId}
+use Rattle.std.{specs.Prelude.fold, specs.Prelude.slice_get, proofs.lemmas.Option.none-some, proofs.lemmas.Option.same_Some}
+use Rattle.dcd_base.specs.declared.{ids.HostId.HostId, steps.LogId.LogId}
 use Rattle.event_log.specs.Logs.{records_in}
-use Rattle.journal_core.proofs.EachSteps.{Each-push}
-use Rattle.journal_core.specs.declared.entries.Entry.{Entry}
-use Rattle.journal_core.specs.declared.outcome.Effect.{Effect}
-use Rattle.extent_list.specs.media_map.specs.region_config.specs.Configurations.{Configuration}
-use Rattle.extent_list.specs.media_map.specs.region_config.specs.Soundness.{IsSound}
-use Rattle.device_rules.proofs.LegalSound.{legal_is_sound}
-use Rattle.device_rules.specs.Legal.{Legal, Meets}
+use Rattle.journal_core.{proofs.EachSteps.Each-push, specs.declared.entries.Entry.Entry, specs.declared.outcome.Effect.Effect}
+use Rattle.extent_list.specs.media_map.specs.region_config.specs.{Configurations.Configuration, Soundness.IsSound}
+use Rattle.device_rules.{proofs.LegalLogs.legal_logs, proofs.LegalSound.legal_is_sound, proofs.LegalSteps.by_steps, proofs.ViewSteps.view_of-push, specs.Legal.Legal, specs.Legal.Meets}
 use Rattle.device_rules.specs.Views.{View, extents_in, first_view, view_after, view_of}
-use Rattle.device_rules.proofs.LegalLogs.{legal_logs}
-use Rattle.device_rules.proofs.LegalSteps.{by_steps}
-use Rattle.device_rules.proofs.ViewSteps.{view_of-push}
-use Rattle.isolation_laws.specs.Unlawful.{IsUnlawful}
-use Rattle.isolation_laws.specs.Laws.{AreLawful}
-use Rattle.isolation_laws.specs.Solo.{items_of, own_items, solo_after}
-use Rattle.isolation_laws.specs.declared.items.Item.{Item}
-use Rattle.isolation_laws.proofs.AllSee.{all_see_alone, steps_alone}
-use Rattle.isolation_laws.proofs.LogSizes.{few_records}
-use Rattle.isolation_laws.proofs.OneItem.{BringsItems}
-use Rattle.isolation_laws.proofs.OwnItems.{own_items-push}
+use Rattle.isolation_laws.{proofs.AllSee.all_see_alone, proofs.AllSee.steps_alone, proofs.LogSizes.few_records, proofs.OneItem.BringsItems, proofs.OwnItems.own_items-push, specs.Laws.AreLawful}
+use Rattle.isolation_laws.specs.{Solo.items_of, Solo.own_items, Solo.solo_after, Unlawful.IsUnlawful, declared.items.Item.Item}
 
 -- The host has no more extents and records than it may have.
 pub record IsRoomy (v : View) : Type 0 where

@@ -1,21 +1,13 @@
 -- After every legal journal a host's log has 64 records at most.
 use Rattle.std.proofs.Common.{◌≡◌, ◌≤◌, Bool, true, false, List, [], ◌∷◌, ◌++◌, length, refl, sym, subst, arith, length-append, length-drop}
-use Rattle.std.specs.Prelude.{fold, if◌then◌else◌}
-use Rattle.std.proofs.lemmas.List.Sums.{fold-append}
-use Rattle.dcd_base.specs.declared.ids.HostId.{HostId}
-use Rattle.dcd_base.specs.declared.steps.LogId.{LogId}
+use Rattle.std.{specs.Prelude.fold, specs.Prelude.if◌then◌else◌, proofs.lemmas.List.Sums.fold-append}
+use Rattle.dcd_base.specs.declared.{ids.HostId.HostId, steps.LogId.LogId}
 use Rattle.event_log.specs.Logs.{Log, cleared_of, empty_log, missed_by, places_in, records_in, reset}
 use Rattle.event_records.specs.declared.events.Event.{Event}
-use Rattle.journal_core.proofs.JournalSteps.{effects-push}
-use Rattle.journal_core.specs.Entries.{effects}
-use Rattle.journal_core.specs.declared.entries.Entry.{Entry}
-use Rattle.journal_core.specs.declared.outcome.Effect.{Effect}
+use Rattle.journal_core.{proofs.JournalSteps.effects-push, specs.Entries.effects, specs.declared.entries.Entry.Entry, specs.declared.outcome.Effect.Effect}
 use Rattle.extent_list.specs.media_map.specs.region_config.specs.Configurations.{Configuration}
-use Rattle.device_rules.specs.Legal.{Legal}
-use Rattle.device_rules.specs.Logs.{log_after, log_of, same_log}
-use Rattle.device_rules.proofs.Rooms.{room_for}
+use Rattle.device_rules.{proofs.LegalSteps.by_steps, proofs.Rooms.room_for, specs.Legal.Legal, specs.Logs.log_after, specs.Logs.log_of, specs.Logs.same_log}
 use Rattle.device_rules.specs.Rooms.{HasRoom, HaveRoom, IsNextRecord}
-use Rattle.device_rules.proofs.LegalSteps.{by_steps}
 
 -- it has no more records than places
 abbrev pub IsWithin : LogId → Log → Type 0

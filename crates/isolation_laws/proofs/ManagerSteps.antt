@@ -1,53 +1,25 @@
 -- What the manager's commands make of a host's view: what they bring it makes that of it alone.
 use Rattle.std.proofs.Common.{◌≡◌, ℕ, ◌<◌, ◌≤◌, Bool, true, false, not, ◌==◌, List, [], length, Option, Some, None, inl, inr, refl, sym, ap, subst, ◌∙◌, leb, ltb}
-use Rattle.std.specs.Prelude.{if◌then◌else◌}
-use Rattle.std.specs.List.{AllByRecursion, list_all}
-use Rattle.std.specs.declared.result.Result.{Result}
-use Rattle.std.specs.declared.result.Result.TheVariants.{Ok, Err}
 use Rattle.std.proofs.lemmas.Bool.{and_from, cases_eq, leb-false, lt-ltb, not-false}
-use Rattle.dcd_base.specs.Words.{◌or◌}
-use Rattle.dcd_base.specs.declared.capacity.Extent.{Extent}
-use Rattle.dcd_base.specs.declared.capacity.Tag.{Tag}
-use Rattle.dcd_base.specs.declared.ids.HostId.{HostId}
+use Rattle.std.specs.{List.AllByRecursion, List.list_all, Prelude.if◌then◌else◌, declared.result.Result.Result, declared.result.Result.TheVariants.Ok, declared.result.Result.TheVariants.Err}
+use Rattle.dcd_base.specs.{Words.◌or◌, declared.capacity.Extent.Extent, declared.capacity.Tag.Tag, declared.faults.PayloadFault.PayloadFault as ManagerFault, declared.ids.HostId.HostId}
 use Rattle.dcd_base.specs.declared.steps.LogId.{LogId}
-use Rattle.extent_list.specs.dcd_codes.specs.Rules.{◌breaks◌, each_in}
-use Rattle.extent_list.specs.dcd_codes.specs.declared.rules.Rule.{Rule}
+use Rattle.extent_list.specs.{ExtentLists.count_in, dcd_codes.specs.Rules.◌breaks◌, dcd_codes.specs.Rules.each_in, dcd_codes.specs.declared.rules.Rule.Rule}
+use Rattle.extent_list.specs.media_map.specs.region_config.specs.{Configurations.Configuration, Granules.hosts_of, Granules.is_supported, Granules.region_spec, Granules.with_blocks, Soundness.IsSound}
 use Rattle.event_log.specs.Logs.{room_in}
-use Rattle.extent_list.specs.ExtentLists.{count_in}
-use Rattle.dcd_base.specs.declared.faults.PayloadFault.{PayloadFault as ManagerFault}
 use Rattle.fm_payloads.specs.declared.requests.FmRequest.{FmRequest}
-use Rattle.journal_core.specs.Entries.{effects}
-use Rattle.journal_core.specs.declared.entries.Entry.{Entry}
-use Rattle.journal_core.specs.declared.outcome.Effect.{Effect}
-use Rattle.extent_list.specs.media_map.specs.region_config.specs.Configurations.{Configuration}
-use Rattle.extent_list.specs.media_map.specs.region_config.specs.Granules.{hosts_of, is_supported, region_spec, with_blocks}
-use Rattle.extent_list.specs.media_map.specs.region_config.specs.Soundness.{IsSound}
+use Rattle.journal_core.specs.{Entries.effects, declared.entries.Entry.Entry, declared.outcome.Effect.Effect}
 use Rattle.release_core.specs.Removals.{by_tag_rule, prescribed_removal_rule}
-use Rattle.device_rules.specs.Pictures.{picture_of}
-use Rattle.device_rules.specs.Standing.{Sound}
-use Rattle.device_rules.proofs.Adding.{added, row_of}
-use Rattle.device_rules.proofs.Overlaps.{not_broken}
-use Rattle.selection.proofs.Prescribed.{neither}
-use Rattle.device_rules.specs.Adding.{add_outcome, add_rule, offered}
-use Rattle.device_rules.specs.Answers.{effects_with, manager_outcome, manager_result, manager_rule, unless}
-use Rattle.device_rules.specs.EventCommands.{clear_outcome}
-use Rattle.device_rules.specs.Logs.{log_of}
-use Rattle.device_rules.specs.Outcomes.{Outcome, effects_of, log_full}
+use Rattle.device_rules.proofs.{Adding.added, Adding.row_of, EffectKinds.clear_passes, EffectKinds.reference_passes, LogOutcomes.last_of, LogOutcomes.room_for, LogSteps.IsSound as IsSoundLog}
+use Rattle.device_rules.proofs.{Overlaps.not_broken, ViewOthers.add-leaves, ViewOthers.remove-leaves, ViewsLeft.leaves_view, ViewsLeft.outcome-leaves}
+use Rattle.device_rules.specs.{Adding.add_outcome, Adding.add_rule, Adding.offered, Answers.effects_with, Answers.manager_outcome, Answers.manager_result, Answers.manager_rule, Answers.unless}
+use Rattle.device_rules.specs.{EventCommands.clear_outcome, Logs.log_of, Outcomes.Outcome, Outcomes.effects_of, Outcomes.log_full, Pictures.picture_of}
 use Rattle.device_rules.specs.ReleaseOutcomes.{is_cleaning, is_forced, policy_in, remove_outcome, remove_rule, removed}
-use Rattle.device_rules.specs.Settings.{in_use, no_such_region, set_outcome, set_rule}
-use Rattle.device_rules.specs.TagCommands.{add_reference_outcome, remove_reference_outcome}
-use Rattle.device_rules.specs.Tags.{is_referenced}
-use Rattle.device_rules.specs.Views.{View, view_of}
-use Rattle.device_rules.proofs.EffectKinds.{clear_passes, reference_passes}
-use Rattle.device_rules.proofs.LogOutcomes.{last_of, room_for}
-use Rattle.device_rules.proofs.LogSteps.{IsSound as IsSoundLog}
-use Rattle.device_rules.proofs.ViewOthers.{add-leaves, remove-leaves}
-use Rattle.device_rules.proofs.ViewsLeft.{leaves_view, outcome-leaves}
-use Rattle.isolation_laws.proofs.BlockSizes.{brings_block}
-use Rattle.isolation_laws.proofs.OfferViews.{brings_offer}
-use Rattle.isolation_laws.proofs.OtherSteps.{BringsAlone, brings_nothing}
-use Rattle.isolation_laws.proofs.RemovalViews.{IsOwnRun, brings_removal, brings_request, removing}
-use Rattle.isolation_laws.proofs.RemovedRuns.{removed_runs}
+use Rattle.device_rules.specs.{Settings.in_use, Settings.no_such_region, Settings.set_outcome, Settings.set_rule, Standing.Sound}
+use Rattle.device_rules.specs.{TagCommands.add_reference_outcome, TagCommands.remove_reference_outcome, Tags.is_referenced, Views.View, Views.view_of}
+use Rattle.selection.proofs.Prescribed.{neither}
+use Rattle.isolation_laws.proofs.{BlockSizes.brings_block, OfferViews.brings_offer, OtherSteps.BringsAlone, OtherSteps.brings_nothing}
+use Rattle.isolation_laws.proofs.{RemovalViews.IsOwnRun, RemovalViews.brings_removal, RemovalViews.brings_request, RemovalViews.removing, RemovedRuns.removed_runs}
 
 module _ (c : Configuration) (sound : IsSound c) (before : List Entry) (now : Sound c (picture_of c (effects before))) (h : HostId) (known : h < c.hosts)
     (history : IsSoundLog (log_of (LogId.Host h) (effects before))) where

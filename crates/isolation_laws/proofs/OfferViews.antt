@@ -1,23 +1,14 @@
 -- The manager offers extents to the host: its view is then the one that it has alone, given them.
 use Rattle.std.proofs.Common.{◌≡◌, ◌<◌, ◌≤◌, List, [], ◌∷◌, ◌++◌, length, refl, sym, ap, subst, ◌∙◌, arith}
-use Rattle.std.specs.Prelude.{if◌then◌else◌}
-use Rattle.std.proofs.lemmas.Bool.{eq-eqb}
-use Rattle.dcd_base.specs.declared.capacity.Extent.{Extent}
-use Rattle.dcd_base.specs.declared.ids.HostId.{HostId}
-use Rattle.dcd_base.specs.declared.steps.LogId.{LogId}
+use Rattle.std.{specs.Prelude.if◌then◌else◌, proofs.lemmas.Bool.eq-eqb}
+use Rattle.dcd_base.specs.declared.{capacity.Extent.Extent, ids.HostId.HostId, steps.LogId.LogId}
 use Rattle.event_log.specs.Logs.{room_in}
 use Rattle.event_records.specs.declared.events.EventKind.{EventKind}
 use Rattle.journal_core.specs.declared.outcome.Effect.{Effect}
 use Rattle.extent_list.specs.media_map.specs.region_config.specs.Configurations.{Configuration}
-use Rattle.device_rules.specs.Logs.{log_of}
-use Rattle.device_rules.specs.Outcomes.{Outcome, effects_of, records_of_extents}
-use Rattle.device_rules.specs.Views.{View, view_after}
-use Rattle.device_rules.proofs.LogSteps.{IsSound}
+use Rattle.device_rules.{specs.Logs.log_of, specs.Outcomes.Outcome, specs.Outcomes.effects_of, specs.Outcomes.records_of_extents, specs.Views.View, specs.Views.view_after, proofs.LogSteps.IsSound}
+use Rattle.isolation_laws.proofs.{OneItem.BringsItems, OtherSteps.BringsAlone, OwnRecords.told_log_records, OwnRecords.view_after-log_records, RecordItems.blocks_outcome, RecordItems.delivered_is}
 use Rattle.isolation_laws.specs.Solo.{with_log_records}
-use Rattle.isolation_laws.proofs.OneItem.{BringsItems}
-use Rattle.isolation_laws.proofs.OtherSteps.{BringsAlone}
-use Rattle.isolation_laws.proofs.OwnRecords.{told_log_records, view_after-log_records}
-use Rattle.isolation_laws.proofs.RecordItems.{blocks_outcome, delivered_is}
 
 -- what an offer of these extents does
 abbrev pub offering : Configuration → HostId → View → List Extent → Outcome

@@ -1,27 +1,15 @@
 -- What the manager offers where nothing is shared was free before, and so not taken where the region is zeroed.
 use Rattle.std.proofs.Common.{◌≡◌, ℕ, ◌*◌, ◌/◌, ◌%◌, ◌<◌, Bool, true, false, not, ◌&&◌, ◌||◌, ◌==◌, List, inl, inr, refl, sym, ap, subst, ◌∙◌, arith, div-add-mod', zero-mul}
-use Rattle.std.specs.Prelude.{if◌then◌else◌}
 use Rattle.std.proofs.lemmas.Bool.{cases_eq, eqb-false, eqb-true, false≢true, not-false, or_parts}
-use Rattle.dcd_base.specs.Words.{has_in_runs}
-use Rattle.dcd_base.specs.declared.capacity.Extent.{Extent}
-use Rattle.dcd_base.specs.declared.capacity.Tag.{Tag}
-use Rattle.dcd_base.specs.declared.ids.HostId.{HostId}
-use Rattle.extent_list.specs.dcd_codes.specs.Rules.{◌breaks◌}
-use Rattle.extent_list.specs.dcd_codes.specs.declared.rules.Rule.{Rule}
-use Rattle.journal_core.specs.Holders.{is_soiled, is_taken}
-use Rattle.journal_core.specs.declared.outcome.Effect.{Effect}
-use Rattle.extent_list.specs.media_map.specs.region_config.specs.Configurations.{Configuration}
-use Rattle.extent_list.specs.media_map.specs.region_config.specs.Granules.{region_of, region_spec}
-use Rattle.extent_list.specs.media_map.specs.region_config.specs.Soundness.{IsSound}
-use Rattle.selection.specs.Selections.{too_few_free}
-use Rattle.device_rules.specs.Pictures.{Picture, picture_of}
-use Rattle.device_rules.specs.Standing.{Sound, Stands}
-use Rattle.device_rules.proofs.AddChoices.{contiguous_reached, free_reached, marked_runs, prescribed_reached, reach_runs}
-use Rattle.device_rules.proofs.Adding.{IsRow}
-use Rattle.device_rules.proofs.OneOffer.{reaches}
-use Rattle.device_rules.proofs.Overlaps.{not_broken}
-use Rattle.selection.proofs.Prescribed.{neither}
-use Rattle.device_rules.specs.Adding.{is_free_now, offered, present, with_tag, region_longest_free as blocks_together}
+use Rattle.std.specs.Prelude.{if◌then◌else◌}
+use Rattle.dcd_base.specs.{Words.has_in_runs, declared.capacity.Extent.Extent, declared.capacity.Tag.Tag, declared.ids.HostId.HostId}
+use Rattle.extent_list.specs.{dcd_codes.specs.Rules.◌breaks◌, dcd_codes.specs.declared.rules.Rule.Rule, media_map.specs.region_config.specs.Configurations.Configuration}
+use Rattle.extent_list.specs.media_map.specs.region_config.specs.{Granules.region_of, Granules.region_spec, Soundness.IsSound}
+use Rattle.journal_core.specs.{Holders.is_soiled, Holders.is_taken, declared.outcome.Effect.Effect}
+use Rattle.selection.{specs.Selections.too_few_free, proofs.Prescribed.neither}
+use Rattle.device_rules.proofs.{AddChoices.contiguous_reached, AddChoices.free_reached, AddChoices.marked_runs, AddChoices.prescribed_reached, AddChoices.reach_runs, Adding.IsRow, OneOffer.reaches}
+use Rattle.device_rules.{proofs.Overlaps.not_broken, specs.Adding.is_free_now, specs.Adding.offered, specs.Adding.present, specs.Adding.with_tag, specs.Adding.region_longest_free as blocks_together}
+use Rattle.device_rules.specs.{Pictures.Picture, Pictures.picture_of, Standing.Sound, Standing.Stands}
 use Rattle.device_rules.specs.Tags.{Dirty, Free, Held, Offered, Tagged, is_free, is_held, is_offered, is_tagged, status}
 
 -- ---- a free granule was not taken since it was zeroed

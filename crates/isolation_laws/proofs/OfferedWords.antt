@@ -1,58 +1,27 @@
 -- What a host accepts was offered, and so its words are 0 where the region is sanitized.
 use Rattle.std.proofs.Common.{◌≡◌, ℕ, ◌+◌, ◌<◌, ◌≤◌, Bool, true, false, ◌||◌, List, [], ◌∷◌, ◌++◌, Option, Some, None, length, map, inl, inr, refl, sym, ap, subst, ◌∙◌, arith}
-use Rattle.std.specs.Prelude.{flat_map}
-use Rattle.std.specs.List.{AllByRecursion, list_all, list_any}
-use Rattle.std.specs.declared.result.Result.{Result}
-use Rattle.std.specs.declared.result.Result.TheVariants.{Ok, Err}
-use Rattle.std.proofs.lemmas.Bool.{and_parts, cases_Bool, false≢true, or_left}
-use Rattle.std.proofs.lemmas.List.Folds.{list_any-append}
+use Rattle.std.proofs.lemmas.{Bool.and_parts, Bool.cases_Bool, Bool.false≢true, Bool.or_left, List.Folds.list_any-append}
+use Rattle.std.specs.{List.AllByRecursion, List.list_all, List.list_any, Prelude.flat_map, declared.result.Result.Result, declared.result.Result.TheVariants.Ok, declared.result.Result.TheVariants.Err}
 use Rattle.cci_codec.specs.declared.messages.Request.{Request}
-use Rattle.dcd_base.specs.Words.{has_granule, has_in_runs}
-use Rattle.dcd_base.specs.declared.capacity.Extent.{Extent}
-use Rattle.dcd_base.specs.declared.ids.HostId.{HostId}
-use Rattle.dcd_base.specs.declared.media.Place.{Place}
-use Rattle.dcd_base.specs.declared.steps.LogId.{LogId}
-use Rattle.extent_list.specs.dcd_codes.specs.declared.rules.Rule.{Rule}
-use Rattle.extent_list.specs.ExtentLists.{is_in, lies_in, marked}
-use Rattle.host_payloads.specs.HostPayloads.{host_request}
-use Rattle.dcd_base.specs.declared.faults.PayloadFault.{PayloadFault as HostFault}
-use Rattle.host_payloads.specs.declared.requests.HostRequest.{HostRequest}
-use Rattle.journal_core.specs.Entries.{effects}
-use Rattle.journal_core.specs.Holders.{holds}
-use Rattle.journal_core.specs.declared.acts.Act.{Act}
-use Rattle.journal_core.specs.declared.entries.Entry.{Entry}
-use Rattle.journal_core.specs.declared.outcome.Effect.{Effect}
-use Rattle.journal_core.specs.declared.outcome.HeldKind.{HeldKind}
-use Rattle.extent_list.specs.Listing.{too_many_listed}
-use Rattle.extent_list.specs.media_map.specs.Places.{IsPlace, run_of}
+use Rattle.dcd_base.specs.{Words.has_granule, Words.has_in_runs, declared.capacity.Extent.Extent, declared.faults.PayloadFault.PayloadFault as HostFault, declared.ids.HostId.HostId}
+use Rattle.dcd_base.specs.declared.{media.Place.Place, steps.LogId.LogId}
+use Rattle.extent_list.specs.{ExtentLists.is_in, ExtentLists.lies_in, ExtentLists.marked, Listing.too_many_listed, dcd_codes.specs.declared.rules.Rule.Rule}
+use Rattle.extent_list.specs.media_map.specs.{Places.IsPlace, Places.run_of, region_config.specs.Configurations.Configuration}
+use Rattle.extent_list.specs.media_map.specs.region_config.specs.{Granules.hosts_of, Granules.region_of, Granules.region_spec, Granules.with_blocks, Soundness.IsSound}
+use Rattle.host_payloads.specs.{HostPayloads.host_request, declared.requests.HostRequest.HostRequest}
+use Rattle.journal_core.specs.{Entries.effects, Holders.holds, declared.acts.Act.Act, declared.entries.Entry.Entry, declared.outcome.Effect.Effect, declared.outcome.HeldKind.HeldKind}
 use Rattle.offer_core.specs.Responses.{response_list_rule}
-use Rattle.extent_list.specs.media_map.specs.region_config.specs.Configurations.{Configuration}
-use Rattle.extent_list.specs.media_map.specs.region_config.specs.Granules.{hosts_of, region_of, region_spec, with_blocks}
-use Rattle.extent_list.specs.media_map.specs.region_config.specs.Soundness.{IsSound}
-use Rattle.device_rules.specs.Pictures.{Picture, count_on, extents_at, picture_of}
-use Rattle.device_rules.specs.Standing.{IsHome, Stands}
-use Rattle.device_rules.proofs.LegalSound.{legal_is_sound}
+use Rattle.device_rules.proofs.{EffectKinds.PassHeld, EffectKinds.clear_passes, EffectKinds.dropped_passes, EffectKinds.hold_passes, EffectKinds.unhold_passes, HostSearches.any_none}
+use Rattle.device_rules.proofs.{Leaving.both_pass, Leaving.map_passes, LegalSound.legal_is_sound}
 use Rattle.device_rules.proofs.ListSteps.{any-map, each-at, each-back, each-change, each-front, many-any, many-append}
-use Rattle.device_rules.proofs.OneAnswer.{any-of-each}
-use Rattle.device_rules.proofs.OneOffer.{any-implies, reaches}
-use Rattle.selection.proofs.Prescribed.{neither}
-use Rattle.device_rules.proofs.Responding.{answer_of}
-use Rattle.device_rules.specs.Answers.{dropped, host_outcome, host_result, host_rule, unless}
-use Rattle.device_rules.specs.Hosts.{accepted_of, offers_of}
-use Rattle.device_rules.specs.Legal.{Legal, word_of}
-use Rattle.device_rules.specs.Outcomes.{Outcome}
-use Rattle.device_rules.specs.ReleaseOutcomes.{leaves}
-use Rattle.device_rules.specs.ResponseOutcomes.{answered, unhold}
-use Rattle.device_rules.specs.Tags.{is_free, is_held, is_offered, status}
+use Rattle.device_rules.proofs.{OneAnswer.any-of-each, OneOffer.any-implies, OneOffer.reaches, Responding.answer_of}
+use Rattle.device_rules.specs.{Answers.dropped, Answers.host_outcome, Answers.host_result, Answers.host_rule, Answers.unless, Hosts.accepted_of, Hosts.offers_of, Legal.Legal, Legal.word_of}
+use Rattle.device_rules.specs.{Outcomes.Outcome, Pictures.Picture, Pictures.count_on, Pictures.extents_at, Pictures.picture_of, ReleaseOutcomes.leaves}
+use Rattle.device_rules.specs.{ResponseOutcomes.answered, ResponseOutcomes.unhold, Standing.IsHome, Standing.Stands, Tags.is_free, Tags.is_held, Tags.is_offered, Tags.status}
 use Rattle.device_rules.specs.Views.{View, view_of}
-use Rattle.device_rules.proofs.EffectKinds.{PassHeld, clear_passes, dropped_passes, hold_passes, unhold_passes}
-use Rattle.device_rules.proofs.HostSearches.{any_none}
-use Rattle.device_rules.proofs.Leaving.{both_pass, map_passes}
-use Rattle.isolation_laws.specs.Laws.{Clean, is_offered_status}
-use Rattle.isolation_laws.specs.Solo.{accepts_byte, changes_with, has_byte, own_changes}
-use Rattle.isolation_laws.proofs.AcceptedBytes.{or_either, within_has}
-use Rattle.isolation_laws.proofs.GrantedPlaces.{home_has, region_of_place}
-use Rattle.isolation_laws.proofs.ZeroSteps.{any_host}
+use Rattle.selection.proofs.Prescribed.{neither}
+use Rattle.isolation_laws.proofs.{AcceptedBytes.or_either, AcceptedBytes.within_has, GrantedPlaces.home_has, GrantedPlaces.region_of_place, ZeroSteps.any_host}
+use Rattle.isolation_laws.specs.{Laws.Clean, Laws.is_offered_status, Solo.accepts_byte, Solo.changes_with, Solo.has_byte, Solo.own_changes}
 
 -- ---- what accepts nothing
 

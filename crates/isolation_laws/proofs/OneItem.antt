@@ -1,13 +1,10 @@
 -- What effects bring a host: one item at most, and a view that the item makes alone.
-use Rattle.std.proofs.Common.{◌≡◌, List, [], ◌∷◌}
-use Rattle.std.specs.Prelude.{fold}
+use Rattle.std.{proofs.Common.◌≡◌, proofs.Common.List, proofs.Common.[], proofs.Common.◌∷◌, specs.Prelude.fold}
 use Rattle.dcd_base.specs.declared.ids.HostId.{HostId}
 use Rattle.journal_core.specs.declared.outcome.Effect.{Effect}
 use Rattle.extent_list.specs.media_map.specs.region_config.specs.Configurations.{Configuration}
 use Rattle.device_rules.specs.Views.{View, view_after}
-use Rattle.isolation_laws.specs.Unlawful.{EndsBeyond}
-use Rattle.isolation_laws.specs.Solo.{solo_after}
-use Rattle.isolation_laws.specs.declared.items.Item.{Item}
+use Rattle.isolation_laws.specs.{Unlawful.EndsBeyond, Solo.solo_after, declared.items.Item.Item}
 
 -- no item, or one that ends within the addresses
 abbrev pub IsOneAtMost : List Item → Type 0

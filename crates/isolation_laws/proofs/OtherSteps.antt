@@ -1,14 +1,10 @@
 -- Steps that are none of the host's and bring it nothing.
-use Rattle.std.proofs.Common.{◌≡◌, true, List, sym, subst}
-use Rattle.std.specs.List.{list_all}
+use Rattle.std.{proofs.Common.◌≡◌, proofs.Common.true, proofs.Common.List, proofs.Common.sym, proofs.Common.subst, specs.List.list_all}
 use Rattle.dcd_base.specs.declared.ids.HostId.{HostId}
 use Rattle.journal_core.specs.declared.outcome.Effect.{Effect}
 use Rattle.extent_list.specs.media_map.specs.region_config.specs.Configurations.{Configuration}
-use Rattle.device_rules.specs.Views.{View}
-use Rattle.device_rules.proofs.ViewsLeft.{leaves_view, view_after-left}
-use Rattle.isolation_laws.specs.Solo.{delivered}
-use Rattle.isolation_laws.proofs.OneItem.{BringsItems}
-use Rattle.isolation_laws.proofs.RecordItems.{delivered-left}
+use Rattle.device_rules.{specs.Views.View, proofs.ViewsLeft.leaves_view, proofs.ViewsLeft.view_after-left}
+use Rattle.isolation_laws.{specs.Solo.delivered, proofs.OneItem.BringsItems, proofs.RecordItems.delivered-left}
 
 -- The effects of another actor change the view as what they bring the host changes it alone.
 abbrev pub BringsAlone : Configuration → HostId → View → List Effect → Type 0

@@ -1,16 +1,11 @@
 -- A journal with one more entry: the host's items, and its view alone.
 use Rattle.std.proofs.Common.{◌≡◌, List, [], ◌∷◌, ◌++◌, sym, ap, ◌∙◌, append-nil}
-use Rattle.std.specs.Prelude.{fold}
-use Rattle.std.proofs.lemmas.Grind.{flat_map-append}
-use Rattle.std.proofs.lemmas.List.Sums.{fold-append}
+use Rattle.std.{specs.Prelude.fold, proofs.lemmas.Grind.flat_map-append, proofs.lemmas.List.Sums.fold-append}
 use Rattle.dcd_base.specs.declared.ids.HostId.{HostId}
 use Rattle.journal_core.specs.declared.entries.Entry.{Entry}
 use Rattle.extent_list.specs.media_map.specs.region_config.specs.Configurations.{Configuration}
-use Rattle.device_rules.specs.Views.{first_view, view_of}
-use Rattle.device_rules.proofs.ViewSteps.{view_of-push}
-use Rattle.isolation_laws.specs.Laws.{SeesAlone}
-use Rattle.isolation_laws.specs.Solo.{items_of, own_items, solo_after, solo_view}
-use Rattle.isolation_laws.proofs.OneItem.{BringsItems}
+use Rattle.device_rules.{specs.Views.first_view, specs.Views.view_of, proofs.ViewSteps.view_of-push}
+use Rattle.isolation_laws.{specs.Laws.SeesAlone, specs.Solo.items_of, specs.Solo.own_items, specs.Solo.solo_after, specs.Solo.solo_view, proofs.OneItem.BringsItems}
 
 pub own_items-push : (h : HostId) (journal : List Entry) (e : Entry) → own_items h (journal ++ e ∷ []) ≡ own_items h journal ++ items_of h e
 own_items-push h journal e = flat_map-append (items_of h) journal (e ∷ []) ∙ ap (λ new. own_items h journal ++ new) (append-nil (items_of h e))

@@ -1,24 +1,14 @@
 -- Records of one kind for the host alone: they join its log, and they bring it their extents.
 use Rattle.std.proofs.Common.{◌≡◌, ◌≤◌, List, [], ◌∷◌, length, true, ap, ◌∙◌, arith}
-use Rattle.std.specs.Prelude.{fold, if◌then◌else◌, ◌==◌}
-use Rattle.std.specs.List.{list_all}
-use Rattle.dcd_base.specs.declared.capacity.Extent.{Extent}
-use Rattle.dcd_base.specs.declared.ids.HostId.{HostId}
-use Rattle.dcd_base.specs.declared.steps.LogId.{LogId}
+use Rattle.std.specs.{Prelude.fold, Prelude.if◌then◌else◌, Prelude.◌==◌, List.list_all}
+use Rattle.dcd_base.specs.declared.{capacity.Extent.Extent, ids.HostId.HostId, steps.LogId.LogId}
 use Rattle.event_log.specs.Logs.{logged, room_in}
-use Rattle.event_records.specs.Records.{kind_number}
-use Rattle.event_records.specs.declared.events.EventKind.{EventKind}
+use Rattle.event_records.specs.{Records.kind_number, declared.events.EventKind.EventKind}
 use Rattle.journal_core.specs.declared.outcome.Effect.{Effect}
 use Rattle.extent_list.specs.media_map.specs.region_config.specs.Configurations.{Configuration}
-use Rattle.device_rules.specs.Logs.{log_after, log_of}
-use Rattle.device_rules.specs.Outcomes.{Outcome, effects_of, entered_all, records_of_extents}
-use Rattle.device_rules.specs.Views.{View, view_after}
-use Rattle.device_rules.proofs.LogHistories.{leaves_logs, told as records_for, told_one}
-use Rattle.device_rules.proofs.LogOutcomes.{length-log_records}
-use Rattle.device_rules.proofs.LogSteps.{IsSound, entered_all-room}
-use Rattle.isolation_laws.specs.Solo.{extents_recorded, with_log_records}
-use Rattle.isolation_laws.proofs.JoinedViews.{view_after-told}
-use Rattle.isolation_laws.proofs.RecordItems.{told_outcome, told_records}
+use Rattle.device_rules.proofs.{LogHistories.leaves_logs, LogHistories.told as records_for, LogHistories.told_one, LogOutcomes.length-log_records, LogSteps.IsSound, LogSteps.entered_all-room}
+use Rattle.device_rules.specs.{Logs.log_after, Logs.log_of, Outcomes.Outcome, Outcomes.effects_of, Outcomes.entered_all, Outcomes.records_of_extents, Views.View, Views.view_after}
+use Rattle.isolation_laws.{specs.Solo.extents_recorded, specs.Solo.with_log_records, proofs.JoinedViews.view_after-told, proofs.RecordItems.told_outcome, proofs.RecordItems.told_records}
 
 module _ (c : Configuration) (h : HostId) (v : View) (past : List Effect) (log : log_of (LogId.Host h) past ≡ v.log) (sound : IsSound v.log)
     (w : View) (kind : EventKind) (xs : List Extent) (room : length xs ≤ room_in (LogId.Host h) v.log) where

@@ -1,30 +1,15 @@
 -- What a host's own acts make of its view: what they make of it alone.
 use Rattle.std.proofs.Common.{◌≡◌, true, false, List, [], ◌∷◌, Option, Some, None, ◌++◌, refl}
-use Rattle.std.specs.declared.result.Result.{Result}
-use Rattle.std.specs.declared.result.Result.TheVariants.{Ok, Err}
+use Rattle.std.specs.declared.result.Result.{Result, TheVariants.Ok, TheVariants.Err}
 use Rattle.cci_codec.specs.declared.messages.Request.{Request}
-use Rattle.dcd_base.specs.declared.capacity.Extent.{Extent}
-use Rattle.dcd_base.specs.declared.ids.HostId.{HostId}
-use Rattle.dcd_base.specs.declared.steps.Actor.{Actor}
-use Rattle.extent_list.specs.dcd_codes.specs.declared.rules.Rule.{Rule}
-use Rattle.host_payloads.specs.HostPayloads.{host_request}
-use Rattle.dcd_base.specs.declared.faults.PayloadFault.{PayloadFault as HostFault}
-use Rattle.host_payloads.specs.declared.requests.HostRequest.{HostRequest}
-use Rattle.journal_core.specs.Entries.{effects}
-use Rattle.journal_core.specs.declared.acts.Act.{Act}
-use Rattle.journal_core.specs.declared.entries.Entry.{Entry}
-use Rattle.journal_core.specs.declared.outcome.Effect.{Effect}
-use Rattle.extent_list.specs.media_map.specs.region_config.specs.Configurations.{Configuration}
-use Rattle.device_rules.specs.Answers.{dropped, effects_with, host_outcome, host_result, host_rule, unless}
-use Rattle.device_rules.specs.Legal.{right_answer}
-use Rattle.device_rules.specs.Outcomes.{Outcome}
-use Rattle.device_rules.specs.ResponseOutcomes.{respond_changes, response_records}
-use Rattle.device_rules.specs.Views.{View, view_after, view_of}
-use Rattle.device_rules.proofs.EffectKinds.{tells}
-use Rattle.device_rules.proofs.ViewsLeft.{is_other_log}
-use Rattle.isolation_laws.specs.Solo.{changes_with, solo_after}
-use Rattle.isolation_laws.specs.declared.items.Item.{Item}
-use Rattle.isolation_laws.proofs.JoinedViews.{view_after-outcome}
+use Rattle.dcd_base.specs.declared.{capacity.Extent.Extent, ids.HostId.HostId, steps.Actor.Actor, faults.PayloadFault.PayloadFault as HostFault}
+use Rattle.extent_list.specs.{dcd_codes.specs.declared.rules.Rule.Rule, media_map.specs.region_config.specs.Configurations.Configuration}
+use Rattle.host_payloads.specs.{HostPayloads.host_request, declared.requests.HostRequest.HostRequest}
+use Rattle.journal_core.specs.{Entries.effects, declared.acts.Act.Act, declared.entries.Entry.Entry, declared.outcome.Effect.Effect}
+use Rattle.device_rules.proofs.{EffectKinds.tells, ViewsLeft.is_other_log}
+use Rattle.device_rules.specs.{Answers.dropped, Answers.effects_with, Answers.host_outcome, Answers.host_result, Answers.host_rule, Answers.unless, Legal.right_answer, Outcomes.Outcome}
+use Rattle.device_rules.specs.{ResponseOutcomes.respond_changes, ResponseOutcomes.response_records, Views.View, Views.view_after, Views.view_of}
+use Rattle.isolation_laws.{specs.Solo.changes_with, specs.Solo.solo_after, specs.declared.items.Item.Item, proofs.JoinedViews.view_after-outcome}
 
 module _ (c : Configuration) (h : HostId) where
   -- ---- what a host does is told to the manager

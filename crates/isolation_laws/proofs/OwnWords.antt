@@ -1,40 +1,17 @@
 -- Where a host holds a granule of a region that is sanitized and not shared, its words are those that it has alone.
 use Rattle.std.proofs.Common.{◌≡◌, ℕ, ◌+◌, ◌-◌, ◌*◌, ◌<◌, Bool, true, false, ◌&&◌, List, [], ◌∷◌, ◌++◌, Result, Ok, Err, inl, inr, refl, sym, ap, ◌∙◌}
-use Rattle.std.specs.Prelude.{fold, ◌==◌, if◌then◌else◌}
-use Rattle.std.specs.List.{list_all, list_any}
-use Rattle.std.specs.Result.{is_ok}
-use Rattle.std.proofs.lemmas.Bool.{and_parts, cases_Bool, eq-eqb, eqb-false, eqb-true, false≢true}
-use Rattle.std.proofs.lemmas.List.Sums.{fold-append, fold_push}
-use Rattle.dcd_base.specs.declared.failures.AccessFault.{AccessFault}
-use Rattle.dcd_base.specs.declared.ids.HostId.{HostId}
-use Rattle.dcd_base.specs.declared.media.Place.{Place}
-use Rattle.dcd_base.specs.declared.steps.Actor.{Actor}
-use Rattle.journal_core.specs.Entries.{effects}
-use Rattle.journal_core.specs.Holders.{holds}
-use Rattle.journal_core.specs.declared.acts.Act.{Act}
-use Rattle.journal_core.specs.declared.acts.Reply.{Reply}
-use Rattle.journal_core.specs.declared.entries.Entry.{Entry}
-use Rattle.journal_core.proofs.EachSteps.{Each-push}
-use Rattle.extent_list.specs.media_map.specs.Places.{IsPlace, address_of, locate}
-use Rattle.extent_list.specs.media_map.proofs.PlaceLemmas.{address_back}
-use Rattle.extent_list.specs.media_map.specs.region_config.specs.Configurations.{Configuration}
-use Rattle.extent_list.specs.media_map.specs.region_config.specs.Granules.{base_of, first_granule, granule_size, region_of, region_spec}
-use Rattle.extent_list.specs.media_map.specs.region_config.specs.Soundness.{IsSound}
-use Rattle.device_rules.proofs.ExclusiveHolding.{sound_apart}
-use Rattle.device_rules.proofs.LegalSound.{legal_is_sound}
+use Rattle.std.proofs.lemmas.{Bool.and_parts, Bool.cases_Bool, Bool.eq-eqb, Bool.eqb-false, Bool.eqb-true, Bool.false≢true, List.Sums.fold-append, List.Sums.fold_push}
+use Rattle.std.specs.{List.list_all, List.list_any, Prelude.fold, Prelude.◌==◌, Prelude.if◌then◌else◌, Result.is_ok}
+use Rattle.dcd_base.specs.declared.{failures.AccessFault.AccessFault, ids.HostId.HostId, media.Place.Place, steps.Actor.Actor}
+use Rattle.journal_core.{specs.Entries.effects, specs.Holders.holds, specs.declared.acts.Act.Act, specs.declared.acts.Reply.Reply, specs.declared.entries.Entry.Entry, proofs.EachSteps.Each-push}
+use Rattle.extent_list.specs.media_map.{proofs.PlaceLemmas.address_back, specs.Places.IsPlace, specs.Places.address_of, specs.Places.locate, specs.region_config.specs.Configurations.Configuration}
+use Rattle.extent_list.specs.media_map.specs.region_config.specs.{Granules.base_of, Granules.first_granule, Granules.granule_size, Granules.region_of, Granules.region_spec, Soundness.IsSound}
+use Rattle.device_rules.{proofs.ExclusiveHolding.sound_apart, proofs.LegalSound.legal_is_sound, specs.Views.View, specs.Views.first_view, specs.Views.view_of, proofs.LegalSteps.by_steps}
 use Rattle.device_rules.specs.Legal.{Legal, Meets, access_at, access_reply, is_zeroing, right_answer, stored_at, word_after, word_by, word_of, written_by}
-use Rattle.device_rules.specs.Views.{View, first_view, view_of}
-use Rattle.device_rules.proofs.LegalSteps.{by_steps}
-use Rattle.isolation_laws.specs.Laws.{Clean}
+use Rattle.isolation_laws.proofs.{AcceptedBytes.brought_has, AcceptedBytes.changes_have, AllSee.all_see_alone, BroughtItems.actor_is, BroughtItems.all_brought, BroughtItems.is_brought}
+use Rattle.isolation_laws.proofs.{GrantedPlaces.held_has, GrantedPlaces.place_of, GrantedPlaces.region_of_place, OfferedWords.accepted_zero, OwnItems.own_items-push, OwnItems.solo_view-push}
+use Rattle.isolation_laws.{proofs.ZeroSteps.host_zeroes, proofs.ZeroSteps.no_zero-left, proofs.ZeroSteps.none_zeroed, specs.Laws.Clean, specs.declared.items.Item.Item}
 use Rattle.isolation_laws.specs.Solo.{accepts_byte, delivered, has_byte, acts_for, items_of, own_changes, own_items, solo_after, solo_view, solo_word, solo_word_after}
-use Rattle.isolation_laws.specs.declared.items.Item.{Item}
-use Rattle.isolation_laws.proofs.AcceptedBytes.{brought_has, changes_have}
-use Rattle.isolation_laws.proofs.AllSee.{all_see_alone}
-use Rattle.isolation_laws.proofs.BroughtItems.{actor_is, all_brought, is_brought}
-use Rattle.isolation_laws.proofs.GrantedPlaces.{held_has, place_of, region_of_place}
-use Rattle.isolation_laws.proofs.OfferedWords.{accepted_zero}
-use Rattle.isolation_laws.proofs.OwnItems.{own_items-push, solo_view-push}
-use Rattle.isolation_laws.proofs.ZeroSteps.{host_zeroes, no_zero-left, none_zeroed}
 
 -- ---- the word that a host has alone, item by item
 

@@ -1,30 +1,17 @@
 -- What the effects of a command bring a host: the extents of the records in its log, and block sizes.
 use Rattle.std.proofs.Common.{◌≡◌, ◌<◌, ◌≤◌, Bool, true, false, ◌&&◌, not, List, [], ◌∷◌, ◌++◌, Option, Some, None, length, refl, sym, ap, ◌∙◌, arith}
-use Rattle.std.specs.Prelude.{filter_map, map, if◌then◌else◌, ◌==◌}
-use Rattle.std.specs.List.{cons_option, list_all}
-use Rattle.std.proofs.lemmas.Bool.{and_parts, eq-eqb, false≢true, not-true}
-use Rattle.std.proofs.lemmas.List.Elements.{filter_map-append}
-use Rattle.dcd_base.specs.declared.capacity.Extent.{Extent}
-use Rattle.dcd_base.specs.declared.ids.HostId.{HostId}
-use Rattle.dcd_base.specs.declared.steps.LogId.{LogId}
+use Rattle.std.proofs.lemmas.{Bool.and_parts, Bool.eq-eqb, Bool.false≢true, Bool.not-true, List.Elements.filter_map-append}
+use Rattle.std.specs.{List.cons_option, List.list_all, Prelude.filter_map, Prelude.map, Prelude.if◌then◌else◌, Prelude.◌==◌}
+use Rattle.dcd_base.specs.{declared.capacity.Extent.Extent, declared.ids.HostId.HostId, declared.steps.LogId.LogId, Words.is_empty}
 use Rattle.event_log.specs.Logs.{Log, recorded, room_in}
-use Rattle.event_records.specs.Records.{kind_number}
-use Rattle.event_records.specs.declared.events.Event.{Event}
-use Rattle.event_records.specs.declared.events.EventKind.{EventKind}
+use Rattle.event_records.specs.{Records.kind_number, declared.events.Event.Event, declared.events.EventKind.EventKind}
 use Rattle.journal_core.specs.declared.outcome.Effect.{Effect}
 use Rattle.extent_list.specs.media_map.specs.region_config.specs.Configurations.{Configuration}
-use Rattle.dcd_base.specs.Words.{is_empty}
-use Rattle.device_rules.specs.Logs.{log_after}
-use Rattle.device_rules.specs.Outcomes.{Outcome, effects_of, ended, entered, entered_all, record_for, records_of_extents}
+use Rattle.device_rules.proofs.{EffectKinds.any_log, EffectKinds.tells_any, EffectKinds.told_passes, Leaving.both_pass, Leaving.map_passes, LogHistories.leaves_logs, LogHistories.told as records_for}
+use Rattle.device_rules.proofs.{LogSteps.IsSound, LogSteps.IsSound-recorded, LogSteps.after-entered, LogSteps.entered-room, LogSteps.room-recorded, ViewCommands.only_logs, ViewsLeft.leaves_view}
+use Rattle.device_rules.specs.{Logs.log_after, Outcomes.Outcome, Outcomes.effects_of, Outcomes.ended, Outcomes.entered, Outcomes.entered_all, Outcomes.record_for, Outcomes.records_of_extents}
 use Rattle.device_rules.specs.Views.{View}
-use Rattle.device_rules.proofs.EffectKinds.{any_log, tells_any, told_passes}
-use Rattle.device_rules.proofs.Leaving.{both_pass, map_passes}
-use Rattle.device_rules.proofs.LogHistories.{leaves_logs, told as records_for}
-use Rattle.device_rules.proofs.LogSteps.{IsSound, IsSound-recorded, after-entered, entered-room, room-recorded}
-use Rattle.device_rules.proofs.ViewCommands.{only_logs}
-use Rattle.device_rules.proofs.ViewsLeft.{leaves_view}
-use Rattle.isolation_laws.specs.Solo.{block_item, delivered, item_of, extents_recorded, told_by}
-use Rattle.isolation_laws.specs.declared.items.Item.{Item}
+use Rattle.isolation_laws.specs.{Solo.block_item, Solo.delivered, Solo.item_of, Solo.extents_recorded, Solo.told_by, declared.items.Item.Item}
 
 -- ---- effects that bring nothing
 

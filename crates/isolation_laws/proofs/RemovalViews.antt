@@ -1,34 +1,19 @@
 -- The manager asks the host for extents, or takes them by force: its view is then the one that it has alone.
 use Rattle.std.proofs.Common.{◌≡◌, ◌+◌, ◌^◌, ◌<◌, ◌≤◌, Bool, true, false, ◌||◌, List, [], ◌∷◌, ◌++◌, None, length, refl, sym, ap, subst, ◌∙◌}
-use Rattle.std.specs.Prelude.{All, filter_map, fold, if◌then◌else◌}
-use Rattle.std.specs.List.{AllByRecursion, list_all, list_any}
-use Rattle.std.proofs.lemmas.Bool.{eq-eqb, false≢true}
-use Rattle.std.proofs.lemmas.List.Elements.{All-cons, All-nil}
-use Rattle.dcd_base.specs.declared.capacity.Extent.{Extent}
-use Rattle.dcd_base.specs.declared.ids.HostId.{HostId}
-use Rattle.dcd_base.specs.declared.media.Run.{Run}
-use Rattle.dcd_base.specs.declared.steps.LogId.{LogId}
+use Rattle.std.proofs.lemmas.{Bool.eq-eqb, Bool.false≢true, List.Elements.All-cons, List.Elements.All-nil}
+use Rattle.std.specs.{List.AllByRecursion, List.list_all, List.list_any, Prelude.All, Prelude.filter_map, Prelude.fold, Prelude.if◌then◌else◌}
+use Rattle.dcd_base.specs.declared.{capacity.Extent.Extent, ids.HostId.HostId, media.Run.Run, steps.LogId.LogId}
 use Rattle.event_log.specs.Logs.{room_in}
 use Rattle.event_records.specs.declared.events.EventKind.{EventKind}
-use Rattle.extent_list.specs.ExtentLists.{cut, cut_all, tags_of}
-use Rattle.journal_core.specs.declared.outcome.Effect.{Effect}
-use Rattle.journal_core.specs.declared.outcome.HeldKind.{HeldKind}
-use Rattle.extent_list.specs.media_map.specs.Places.{bytes_of_run, run_of, start_of}
+use Rattle.extent_list.specs.{ExtentLists.cut, ExtentLists.cut_all, ExtentLists.tags_of, media_map.specs.Places.bytes_of_run, media_map.specs.Places.run_of, media_map.specs.Places.start_of}
 use Rattle.extent_list.specs.media_map.specs.region_config.specs.Configurations.{Configuration}
-use Rattle.device_rules.specs.Hosts.{accepted_after, block_after, held_after, moves, offers_after}
-use Rattle.device_rules.specs.Logs.{log_after, log_of}
-use Rattle.device_rules.specs.Outcomes.{Outcome, effects_of, records_of_extents}
-use Rattle.device_rules.specs.ReleaseOutcomes.{removals, soils}
-use Rattle.device_rules.specs.Views.{View, view_after}
-use Rattle.device_rules.proofs.EffectKinds.{removals_pass}
-use Rattle.device_rules.proofs.LogHistories.{leaves_logs}
-use Rattle.device_rules.proofs.LogSteps.{IsSound}
-use Rattle.isolation_laws.specs.Solo.{block_item, item_of, solo_after, with_log_records}
-use Rattle.isolation_laws.specs.declared.items.Item.{Item}
-use Rattle.isolation_laws.proofs.OneItem.{BringsItems, IsOneAtMost}
-use Rattle.isolation_laws.proofs.OtherSteps.{BringsAlone}
-use Rattle.isolation_laws.proofs.OwnRecords.{told_log_records, view_after-log_records}
+use Rattle.journal_core.specs.declared.outcome.{Effect.Effect, HeldKind.HeldKind}
+use Rattle.device_rules.proofs.{EffectKinds.removals_pass, LogHistories.leaves_logs, LogSteps.IsSound}
+use Rattle.device_rules.specs.{Hosts.accepted_after, Hosts.block_after, Hosts.held_after, Hosts.moves, Hosts.offers_after, Logs.log_after, Logs.log_of}
+use Rattle.device_rules.specs.{Outcomes.Outcome, Outcomes.effects_of, Outcomes.records_of_extents, ReleaseOutcomes.removals, ReleaseOutcomes.soils, Views.View, Views.view_after}
+use Rattle.isolation_laws.proofs.{OneItem.BringsItems, OneItem.IsOneAtMost, OtherSteps.BringsAlone, OwnRecords.told_log_records, OwnRecords.view_after-log_records}
 use Rattle.isolation_laws.proofs.RecordItems.{blocks_outcome, delivered_is, none_found}
+use Rattle.isolation_laws.specs.{Solo.block_item, Solo.item_of, Solo.solo_after, Solo.with_log_records, declared.items.Item.Item}
 
 -- what a removal of these extents does
 abbrev pub removing : Configuration → HostId → View → Bool → Bool → List Extent → Outcome

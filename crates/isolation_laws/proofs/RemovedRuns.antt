@@ -1,29 +1,12 @@
 -- What the manager takes by force is made of granules.
 use Rattle.std.proofs.Common.{◌≡◌, ℕ, ◌<◌, Bool, true, false, List, map, None, arith}
-use Rattle.std.specs.Prelude.{if◌then◌else◌}
-use Rattle.std.specs.List.{AllByRecursion}
-use Rattle.dcd_base.specs.Words.{◌or◌, same_tag}
-use Rattle.dcd_base.specs.declared.capacity.Extent.{Extent}
-use Rattle.dcd_base.specs.declared.capacity.Tag.{Tag}
-use Rattle.dcd_base.specs.declared.ids.HostId.{HostId}
-use Rattle.extent_list.specs.dcd_codes.specs.Rules.{each_in}
-use Rattle.extent_list.specs.ExtentLists.{count_in, marked}
-use Rattle.extent_list.specs.Listing.{incomplete, too_many_extents}
-use Rattle.extent_list.specs.media_map.specs.Places.{region_at}
-use Rattle.extent_list.specs.media_map.specs.region_config.proofs.Faultless.{region_ends}
-use Rattle.extent_list.specs.media_map.specs.region_config.specs.Configurations.{Configuration}
-use Rattle.extent_list.specs.media_map.specs.region_config.specs.Granules.{with_blocks}
-use Rattle.extent_list.specs.media_map.specs.region_config.specs.Soundness.{IsSound}
-use Rattle.release_core.specs.Leaving.{count_after}
-use Rattle.release_core.specs.Removals.{by_tag_rule, prescribed_removal_rule, extents_of_tag}
-use Rattle.device_rules.specs.Pictures.{Picture}
-use Rattle.device_rules.specs.Standing.{IsMade, Stands}
-use Rattle.device_rules.proofs.Going.{IsGoing, some_going}
-use Rattle.device_rules.proofs.Holding.{present_whole}
-use Rattle.device_rules.proofs.Homes.{made_bytes, made_starts}
-use Rattle.device_rules.proofs.LeftStanding.{going_of, going_rule}
-use Rattle.device_rules.proofs.ListSteps.{each-change, each-map}
-use Rattle.device_rules.proofs.OneLeave.{loose}
+use Rattle.std.specs.{Prelude.if◌then◌else◌, List.AllByRecursion}
+use Rattle.dcd_base.specs.{Words.◌or◌, Words.same_tag, declared.capacity.Extent.Extent, declared.capacity.Tag.Tag, declared.ids.HostId.HostId}
+use Rattle.extent_list.specs.{ExtentLists.count_in, ExtentLists.marked, Listing.incomplete, Listing.too_many_extents, dcd_codes.specs.Rules.each_in, media_map.specs.Places.region_at}
+use Rattle.extent_list.specs.media_map.specs.region_config.{proofs.Faultless.region_ends, specs.Configurations.Configuration, specs.Granules.with_blocks, specs.Soundness.IsSound}
+use Rattle.release_core.specs.{Leaving.count_after, Removals.by_tag_rule, Removals.prescribed_removal_rule, Removals.extents_of_tag}
+use Rattle.device_rules.proofs.{Going.IsGoing, Going.some_going, Holding.present_whole, Homes.made_bytes, Homes.made_starts, LeftStanding.going_of, LeftStanding.going_rule}
+use Rattle.device_rules.{proofs.ListSteps.each-change, proofs.ListSteps.each-map, proofs.OneLeave.loose, specs.Pictures.Picture, specs.Standing.IsMade, specs.Standing.Stands}
 use Rattle.selection.proofs.Prescribed.{neither}
 use Rattle.isolation_laws.proofs.RemovalViews.{IsOwnRun}
 

@@ -1,20 +1,14 @@
 -- What a host is told of an isolated journal is a function of its items alone.
 use Rattle.std.proofs.Common.{◌≡◌, ◌<◌, true, List, [], ◌∷◌, ◌++◌, inl, inr, refl, sym, ap, subst, ◌∙◌, append_assoc, append-nil}
-use Rattle.std.specs.Prelude.{if◌then◌else◌}
-use Rattle.std.specs.List.{list_all}
-use Rattle.std.proofs.lemmas.Bool.{cases_Bool, false≢true}
+use Rattle.std.{specs.Prelude.if◌then◌else◌, specs.List.list_all, proofs.lemmas.Bool.cases_Bool, proofs.lemmas.Bool.false≢true}
 use Rattle.dcd_base.specs.declared.ids.HostId.{HostId}
-use Rattle.journal_core.specs.Entries.{EachFrom}
-use Rattle.journal_core.specs.declared.acts.Reply.{Reply}
-use Rattle.journal_core.specs.declared.entries.Entry.{Entry}
+use Rattle.journal_core.specs.{Entries.EachFrom, declared.acts.Reply.Reply, declared.entries.Entry.Entry}
 use Rattle.extent_list.specs.media_map.specs.region_config.specs.Configurations.{Configuration}
 use Rattle.device_rules.specs.Legal.{Legal}
+use Rattle.isolation_laws.proofs.{BroughtItems.actor_is, BroughtItems.all_brought, BroughtItems.is_brought, OwnItems.own_items-push}
 use Rattle.isolation_laws.specs.Laws.{SameReplies, hushed, replies_with}
-use Rattle.isolation_laws.specs.Solo.{Agrees, AgreesAlone, Isolated, delivered, acts_for, items_of, own_items, solo}
-use Rattle.isolation_laws.specs.declared.items.Item.{Item}
+use Rattle.isolation_laws.specs.{Solo.Agrees, Solo.AgreesAlone, Solo.Isolated, Solo.delivered, Solo.acts_for, Solo.items_of, Solo.own_items, Solo.solo, declared.items.Item.Item}
 use Rattle.isolation_laws.specs.declared.items.SoloReply.{SoloReply}
-use Rattle.isolation_laws.proofs.BroughtItems.{actor_is, all_brought, is_brought}
-use Rattle.isolation_laws.proofs.OwnItems.{own_items-push}
 
 -- what agrees is what was said
 hushed_is : (s : SoloReply) (reply : Reply) → Agrees s reply → hushed s reply ≡ s

@@ -1,15 +1,10 @@
 -- Who has stored into a granule, over effects.
 use Rattle.std.proofs.Common.{◌≡◌, ℕ, Bool, true, false, List, [], ◌∷◌, ◌++◌, refl, sym, ap, ◌∙◌}
+use Rattle.std.{proofs.lemmas.Bool.false≢true, proofs.lemmas.Bool.or_parts, specs.List.list_all}
 use Rattle.std.specs.Prelude.{fold, map, ◌==◌, if◌then◌else◌, IsTrue}
-use Rattle.std.specs.List.{list_all}
-use Rattle.std.proofs.lemmas.Bool.{false≢true, or_parts}
-use Rattle.dcd_base.specs.Words.{has_granule, has_in_runs}
-use Rattle.dcd_base.specs.declared.capacity.Extent.{Extent}
-use Rattle.dcd_base.specs.declared.ids.HostId.{HostId}
-use Rattle.journal_core.specs.Holders.{taking_after}
-use Rattle.journal_core.specs.declared.outcome.Effect.{Effect}
-use Rattle.extent_list.specs.media_map.specs.Places.{run_of}
-use Rattle.extent_list.specs.media_map.specs.region_config.specs.Configurations.{Configuration}
+use Rattle.dcd_base.specs.{Words.has_granule, Words.has_in_runs, declared.capacity.Extent.Extent, declared.ids.HostId.HostId}
+use Rattle.journal_core.specs.{Holders.taking_after, declared.outcome.Effect.Effect}
+use Rattle.extent_list.specs.media_map.specs.{Places.run_of, region_config.specs.Configurations.Configuration}
 use Rattle.device_rules.proofs.RunEffects.{in_extents, run_from, takes, zeros}
 use Rattle.isolation_laws.specs.Laws.{Writers, writers_by}
 

@@ -1,39 +1,21 @@
 -- Only a scrub zeroes, and it zeroes nothing that a host holds and cannot share.
 use Rattle.std.proofs.Common.{◌≡◌, ℕ, zero, suc, ◌+◌, ◌<◌, ◌≤◌, Bool, true, false, ◌||◌, List, [], ◌∷◌, Option, Some, None, map, inl, inr, refl, sym, ap, ◌∙◌, arith}
-use Rattle.std.specs.Prelude.{◌==◌}
-use Rattle.std.specs.List.{list_all, list_any, range_with_len}
-use Rattle.std.specs.declared.result.Result.{Result}
-use Rattle.std.specs.declared.result.Result.TheVariants.{Ok, Err}
 use Rattle.std.proofs.lemmas.Bool.{and_parts, cases_Bool, cases_eq, false≢true, or_left, or_right}
-use Rattle.dcd_base.specs.Words.{has_granule}
-use Rattle.dcd_base.specs.declared.ids.HostId.{HostId}
-use Rattle.dcd_base.specs.declared.steps.Actor.{Actor}
-use Rattle.dcd_base.specs.declared.steps.LogId.{LogId}
-use Rattle.extent_list.specs.dcd_codes.specs.declared.rules.Rule.{Rule}
-use Rattle.fm_payloads.specs.ManagerPayloads.{manager_request}
-use Rattle.dcd_base.specs.declared.faults.PayloadFault.{PayloadFault as ManagerFault, PayloadFault as HostFault}
-use Rattle.fm_payloads.specs.declared.requests.FmRequest.{FmRequest}
-use Rattle.granule_map.specs.Choices.{joined}
-use Rattle.host_payloads.specs.HostPayloads.{host_request}
-use Rattle.host_payloads.specs.declared.requests.HostRequest.{HostRequest}
-use Rattle.journal_core.specs.Entries.{effects}
-use Rattle.journal_core.specs.Holders.{holds}
-use Rattle.journal_core.specs.declared.acts.Act.{Act}
-use Rattle.journal_core.specs.declared.entries.Entry.{Entry}
-use Rattle.journal_core.specs.declared.outcome.Effect.{Effect}
-use Rattle.extent_list.specs.media_map.specs.region_config.specs.Configurations.{Configuration}
+use Rattle.std.specs.{List.list_all, List.list_any, List.range_with_len, Prelude.◌==◌, declared.result.Result.Result, declared.result.Result.TheVariants.Ok, declared.result.Result.TheVariants.Err}
+use Rattle.dcd_base.specs.{Words.has_granule, declared.faults.PayloadFault.PayloadFault as ManagerFault, declared.faults.PayloadFault.PayloadFault as HostFault, declared.ids.HostId.HostId}
+use Rattle.dcd_base.specs.declared.steps.{Actor.Actor, LogId.LogId}
+use Rattle.extent_list.specs.{dcd_codes.specs.declared.rules.Rule.Rule, media_map.specs.region_config.specs.Configurations.Configuration}
 use Rattle.extent_list.specs.media_map.specs.region_config.specs.Granules.{region_of, region_spec, same_region}
-use Rattle.device_rules.proofs.ListSteps.{any-map}
-use Rattle.device_rules.specs.Answers.{dropped, effects_with, host_outcome, host_result, host_rule, manager_outcome, manager_result, manager_rule, scrubbed, unless, zeroes}
-use Rattle.device_rules.specs.Legal.{is_zeroing, right_answer}
-use Rattle.device_rules.specs.Logs.{log_of}
-use Rattle.device_rules.specs.Outcomes.{Outcome, effects_of}
-use Rattle.device_rules.specs.ReleaseOutcomes.{is_cleaning, is_forced, removed}
-use Rattle.device_rules.specs.Tags.{dirty_granules, all_granules, is_dirty, is_referenced, status}
+use Rattle.fm_payloads.specs.{ManagerPayloads.manager_request, declared.requests.FmRequest.FmRequest}
+use Rattle.granule_map.specs.Choices.{joined}
+use Rattle.host_payloads.specs.{HostPayloads.host_request, declared.requests.HostRequest.HostRequest}
+use Rattle.journal_core.specs.{Entries.effects, Holders.holds, declared.acts.Act.Act, declared.entries.Entry.Entry, declared.outcome.Effect.Effect}
+use Rattle.device_rules.proofs.{JoinedRuns.any_taken, JoinedRuns.joined_has, JoinedRuns.passes_there, ListSteps.any-map, RunEffects.run_from}
+use Rattle.device_rules.specs.{Legal.is_zeroing, Legal.right_answer, Logs.log_of, Outcomes.Outcome, Outcomes.effects_of}
+use Rattle.device_rules.specs.{ReleaseOutcomes.is_cleaning, ReleaseOutcomes.is_forced, ReleaseOutcomes.removed, Tags.dirty_granules, Tags.all_granules, Tags.is_dirty, Tags.is_referenced, Tags.status}
 use Rattle.device_rules.specs.Views.{view_of}
+use Rattle.device_rules.specs.Answers.{dropped, effects_with, host_outcome, host_result, host_rule, manager_outcome, manager_result, manager_rule, scrubbed, unless, zeroes}
 use Rattle.device_rules.proofs.EffectKinds.{PassClearing, PassHeld, PassLists, PassRecords, any_log, clear_passes, dropped_passes, host_passes, outcome_passes, reference_passes, removals_pass, tells_any}
-use Rattle.device_rules.proofs.JoinedRuns.{any_taken, joined_has, passes_there}
-use Rattle.device_rules.proofs.RunEffects.{run_from}
 
 -- ---- what zeroes nothing
 

@@ -1,29 +1,11 @@
 -- What the proof of isolation carries over a legal journal, and what follows for two journals.
 use Rattle.std.specs.Prelude.{◌≡◌, ℕ, ◌<◌, Bool, true, false, ◌||◌, ◌==◌, List, [], ◌∷◌, ◌++◌, fold, take, slice_get, Some, if◌then◌else◌, IsTrue, IsFalse}
-use Rattle.std.specs.List.{list_all}
-use Rattle.std.specs.declared.result.Result.{Result}
-use Rattle.std.specs.declared.result.Result.TheVariants.{Ok, Err}
-use Rattle.dcd_base.specs.declared.ids.HostId.{HostId}
-use Rattle.dcd_base.specs.declared.media.Place.{Place}
-use Rattle.dcd_base.specs.declared.steps.Actor.{Actor}
-use Rattle.dcd_base.specs.declared.failures.AccessFault.{AccessFault}
-use Rattle.extent_list.specs.media_map.specs.region_config.specs.Configurations.{Configuration}
-use Rattle.journal_core.specs.declared.acts.Act.{Act}
-use Rattle.journal_core.specs.declared.acts.Reply.{Reply}
-use Rattle.journal_core.specs.declared.outcome.Effect.{Effect}
-use Rattle.journal_core.specs.declared.entries.Entry.{Entry}
-use Rattle.isolation_laws.specs.declared.items.Item.{Item}
-use Rattle.isolation_laws.specs.declared.items.SoloReply.{SoloReply}
-use Rattle.extent_list.specs.media_map.specs.region_config.specs.Granules.{region_spec, region_of}
-use Rattle.extent_list.specs.media_map.specs.Places.{locate}
-use Rattle.dcd_base.specs.Words.{has_granule}
-use Rattle.journal_core.specs.Entries.{effects}
-use Rattle.journal_core.specs.Holders.{holds, is_taken}
-use Rattle.device_rules.specs.Views.{view_of}
-use Rattle.device_rules.specs.Tags.{Status, status, is_free}
-use Rattle.device_rules.specs.Legal.{word_of}
-use Rattle.isolation_laws.specs.Unlawful.{IsUnlawful}
-use Rattle.isolation_laws.specs.Solo.{acts_for, items_of, own_items, solo_view, solo}
+use Rattle.std.specs.{List.list_all, declared.result.Result.Result, declared.result.Result.TheVariants.Ok, declared.result.Result.TheVariants.Err}
+use Rattle.dcd_base.specs.{declared.ids.HostId.HostId, declared.media.Place.Place, declared.steps.Actor.Actor, declared.failures.AccessFault.AccessFault, Words.has_granule}
+use Rattle.extent_list.specs.media_map.specs.{region_config.specs.Configurations.Configuration, region_config.specs.Granules.region_spec, region_config.specs.Granules.region_of, Places.locate}
+use Rattle.journal_core.specs.{declared.acts.Act.Act, declared.acts.Reply.Reply, declared.outcome.Effect.Effect, declared.entries.Entry.Entry, Entries.effects, Holders.holds, Holders.is_taken}
+use Rattle.isolation_laws.specs.{declared.items.Item.Item, declared.items.SoloReply.SoloReply, Unlawful.IsUnlawful, Solo.acts_for, Solo.items_of, Solo.own_items, Solo.solo_view, Solo.solo}
+use Rattle.device_rules.specs.{Views.view_of, Tags.Status, Tags.status, Tags.is_free, Legal.word_of}
 
 -- who has stored into the granule since it was zeroed, before it was last taken and after that
 pub record Writers : Type 0 where

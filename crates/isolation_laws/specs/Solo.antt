@@ -1,36 +1,16 @@
 -- What a host alone would be told.
 use Rattle.std.specs.Prelude.{◌≡◌, ℕ, ◌+◌, Bool, false, ◌&&◌, not, ◌==◌, nat_le, nat_lt, List, [], ◌∷◌, ◌++◌, length, filter_map, flat_map, fold, Option, Some, None, if◌then◌else◌}
-use Rattle.std.specs.List.{list_any}
-use Rattle.std.specs.Result.{is_ok}
-use Rattle.std.specs.declared.result.Result.{Result}
-use Rattle.std.specs.declared.result.Result.TheVariants.{Ok, Err}
-use Rattle.dcd_base.specs.declared.ids.HostId.{HostId}
-use Rattle.dcd_base.specs.declared.capacity.Extent.{Extent}
-use Rattle.dcd_base.specs.declared.media.Place.{Place}
-use Rattle.dcd_base.specs.declared.steps.Actor.{Actor}
-use Rattle.dcd_base.specs.declared.steps.LogId.{LogId}
-use Rattle.dcd_base.specs.declared.failures.AccessFault.{AccessFault}
-use Rattle.extent_list.specs.dcd_codes.specs.declared.rules.Rule.{Rule}
+use Rattle.std.specs.{List.list_any, Result.is_ok, declared.result.Result.Result, declared.result.Result.TheVariants.Ok, declared.result.Result.TheVariants.Err}
+use Rattle.dcd_base.specs.declared.{ids.HostId.HostId, capacity.Extent.Extent, media.Place.Place, steps.Actor.Actor, steps.LogId.LogId, failures.AccessFault.AccessFault}
+use Rattle.extent_list.specs.{ExtentLists.cut_all, dcd_codes.specs.declared.rules.Rule.Rule, media_map.specs.Places.locate, media_map.specs.region_config.specs.Configurations.Configuration}
+use Rattle.extent_list.specs.media_map.specs.region_config.specs.{Granules.region_spec, Granules.is_supported, declared.region_spec.RegionSpec.RegionSpec}
 use Rattle.cci_codec.specs.declared.messages.Request.{Request}
-use Rattle.event_records.specs.declared.events.EventKind.{EventKind}
-use Rattle.event_records.specs.declared.events.Event.{Event}
-use Rattle.extent_list.specs.media_map.specs.region_config.specs.declared.region_spec.RegionSpec.{RegionSpec}
-use Rattle.extent_list.specs.media_map.specs.region_config.specs.Configurations.{Configuration}
-use Rattle.journal_core.specs.declared.acts.Act.{Act}
-use Rattle.journal_core.specs.declared.acts.Reply.{Reply}
-use Rattle.journal_core.specs.declared.outcome.Effect.{Effect}
-use Rattle.journal_core.specs.declared.entries.Entry.{Entry}
-use Rattle.isolation_laws.specs.declared.items.Item.{Item}
-use Rattle.isolation_laws.specs.declared.items.SoloReply.{SoloReply}
-use Rattle.extent_list.specs.media_map.specs.region_config.specs.Granules.{region_spec, is_supported}
-use Rattle.extent_list.specs.media_map.specs.Places.{locate}
+use Rattle.event_records.specs.{declared.events.EventKind.EventKind, declared.events.Event.Event, Records.kind_number}
+use Rattle.journal_core.specs.{declared.acts.Act.Act, declared.acts.Reply.Reply, declared.outcome.Effect.Effect, declared.entries.Entry.Entry, Entries.Each}
+use Rattle.isolation_laws.specs.declared.items.{Item.Item, SoloReply.SoloReply}
 use Rattle.event_log.specs.Logs.{logged}
+use Rattle.device_rules.specs.{Answers.dropped, Answers.reply_with, Answers.host_result_in, Outcomes.Outcome, Outcomes.record_for, Outcomes.records_of_extents, Outcomes.no_extent}
 use Rattle.device_rules.specs.Views.{View, view_after, first_view}
-use Rattle.event_records.specs.Records.{kind_number}
-use Rattle.device_rules.specs.Outcomes.{Outcome, record_for, records_of_extents, no_extent}
-use Rattle.extent_list.specs.ExtentLists.{cut_all}
-use Rattle.device_rules.specs.Answers.{dropped, reply_with, host_result_in}
-use Rattle.journal_core.specs.Entries.{Each}
 
 -- ---- a host's own acts, and what others bring it
 

@@ -1,12 +1,10 @@
 -- Items that no legal journal brings a host.
 use Rattle.std.specs.Prelude.{◌⊎◌, ◌+◌, ◌^◌, ◌<◌, All, length}
-use Rattle.dcd_base.specs.declared.capacity.Extent.{Extent}
-use Rattle.dcd_base.specs.declared.ids.HostId.{HostId}
+use Rattle.dcd_base.specs.declared.{capacity.Extent.Extent, ids.HostId.HostId}
 use Rattle.device_rules.specs.Views.{View, extents_in}
 use Rattle.event_log.specs.Logs.{records_in}
 use Rattle.extent_list.specs.media_map.specs.region_config.specs.Configurations.{Configuration}
-use Rattle.isolation_laws.specs.Solo.{solo_after}
-use Rattle.isolation_laws.specs.declared.items.Item.{Item}
+use Rattle.isolation_laws.specs.{Solo.solo_after, declared.items.Item.Item}
 
 -- The item takes an extent that ends at 2^64 or above.
 abbrev pub EndsBeyond : Item → Type 0

@@ -24,7 +24,12 @@ pub fn own_items(alloc: Global, journal: &[Entry], host: HostId) -> Result<Items
 }
 
 /// Puts the items of an entry behind the others.
-fn append_items(alloc: Global, entry: &Entry, host: &HostId, items: &mut Items) -> Result<(), NoMemory>
+fn append_items(
+    alloc: Global,
+    entry: &Entry,
+    host: &HostId,
+    items: &mut Items,
+) -> Result<(), NoMemory>
     ensures { OnOk result (items.new ≡ items.old ++ items_of host.now entry.now) }
 {
     if acts_for(host, &entry.actor) {

@@ -1,24 +1,14 @@
 -- Lines of a text that are right are those of the journal that the text claims.
 use Rattle.std.proofs.Common.{◌≡◌, ℕ, suc, ◌+◌, ◌-◌, ◌<◌, ◌^◌, List, [], ◌∷◌, ◌++◌, length, map, flat_map, Some, append_assoc, refl, sym, ap, subst, ◌∙◌, arith}
-use Rattle.std.specs.Prelude.{codes}
-use Rattle.std.specs.List.{AllByRecursion, enumerate_from}
-use Rattle.std.proofs.lemmas.List.Concat.{flat_map-cons}
-use Rattle.std.proofs.lemmas.Option.{same_Some}
-use Rattle.journal_core.specs.declared.entries.Entry.{Entry}
-use Rattle.journal_core.proofs.EachSteps.{Each-front}
-use Rattle.report.specs.script_codec.specs.declared.scripts.Script.{Script}
-use Rattle.report.specs.script_codec.specs.Covering.{Covers}
+use Rattle.std.{specs.Prelude.codes, specs.List.AllByRecursion, specs.List.enumerate_from, proofs.lemmas.List.Concat.flat_map-cons, proofs.lemmas.Option.same_Some}
+use Rattle.journal_core.{specs.declared.entries.Entry.Entry, proofs.EachSteps.Each-front}
+use Rattle.report.specs.{script_codec.specs.declared.scripts.Script.Script, script_codec.specs.Covering.Covers, Texts.text, Texts.entry_line, Texts.entry_lines, Texts.first_line}
 use Rattle.device_plain.specs.device_rules.specs.Legal.{Legal, Meets}
-use Rattle.report.specs.Texts.{text, entry_line, entry_lines, first_line}
-use Rattle.journal_check.specs.Claims.{behind_line, Claims}
-use Rattle.journal_check.specs.Following.{FollowsPasses, IsNextInPass, left_after, left_by_entry, without_line}
-use Rattle.journal_check.specs.Lines.{first_lines, with_first}
-use Rattle.journal_check.proofs.Completed.{HasFront, enough, text_front}
-use Rattle.journal_check.proofs.CoveringOrders.{covers_follows, follows_front}
+use Rattle.journal_check.proofs.{Completed.HasFront, Completed.enough, Completed.text_front, CoveringOrders.covers_follows, CoveringOrders.follows_front}
 use Rattle.journal_check.proofs.EntryLines.{IsLine, IsSmall, entry_is_line, word_by}
-use Rattle.journal_check.proofs.Sharing.{HasLine, behind_is, claimed_same, share_line, shared_claims}
-use Rattle.journal_check.proofs.TextLines.{IsWord, line_first, with_bytes}
-use Rattle.journal_check.proofs.Unstamped.{SameLines, same_journal, unstamped}
+use Rattle.journal_check.proofs.{Sharing.HasLine, Sharing.behind_is, Sharing.claimed_same, Sharing.share_line, Sharing.shared_claims, TextLines.IsWord, TextLines.line_first, TextLines.with_bytes}
+use Rattle.journal_check.{proofs.Unstamped.SameLines, proofs.Unstamped.same_journal, proofs.Unstamped.unstamped, specs.Claims.behind_line, specs.Claims.Claims}
+use Rattle.journal_check.specs.{Following.FollowsPasses, Following.IsNextInPass, Following.left_after, Following.left_by_entry, Following.without_line, Lines.first_lines, Lines.with_first}
 
 -- ---- stamps are not printed
 unstamped_lines : (journal : List Entry) (n : ℕ) → flat_map entry_line (enumerate_from n (map unstamped journal)) ≡ flat_map entry_line (enumerate_from n journal)

@@ -1,23 +1,12 @@
 -- From what comes of an input to what is decided upon it.
 use Rattle.std.proofs.Common.{◌≡◌, ℕ, ◌<◌, ◌≤◌, List, [], Option, Some, None, Ok, Err, length, refl, sym, ap, subst, ◌∙◌, arith}
-use Rattle.std.proofs.lemmas.Option.{none-some, same_Some}
-use Rattle.std.specs.Prelude.{IfOk}
-use Rattle.std.specs.declared.result.Result.{Result}
+use Rattle.std.{proofs.lemmas.Option.none-some, proofs.lemmas.Option.same_Some, specs.Prelude.IfOk, specs.declared.result.Result.Result}
 use Rattle.dcd_base.specs.declared.failures.NoMemory.{NoMemory}
-use Rattle.edge_io.specs.Ends.{IsDecided}
-use Rattle.edge_io.specs.Meanings.{Decides}
-use Rattle.report.specs.script_codec.specs.declared.faults.ScriptFault.{ScriptFault}
-use Rattle.report.specs.script_codec.specs.declared.scripts.Script.{Script}
-use Rattle.report.specs.script_codec.specs.Reading.{fault_of, first_fault}
-use Rattle.report.specs.script_codec.specs.Scripts.{ReadsScript}
-use Rattle.report.specs.script_codec.proofs.ScriptLaws.{script_is}
-use Rattle.journal_check.specs.declared.printing.Printed.{Printed}
-use Rattle.journal_check.specs.declared.status.CheckStatus.{CheckStatus}
+use Rattle.edge_io.specs.{Ends.IsDecided, Meanings.Decides}
+use Rattle.report.specs.script_codec.{proofs.ScriptLaws.script_is, specs.Frames.script_part, specs.Frames.text_part, specs.Reading.fault_of, specs.Reading.first_fault, specs.Scripts.ReadsScript}
+use Rattle.report.specs.script_codec.specs.declared.{faults.ScriptFault.ScriptFault, scripts.Script.Script}
 use Rattle.journal_check.specs.CheckPlanning.{IsAnswer, IsAnswered, IsCheckPlannedFor, IsRefusedFrame, IsSoundInput, bytes_of, checker}
-use Rattle.journal_check.specs.CheckStatuses.{check_end}
-use Rattle.journal_check.specs.FirstWrong.{IsChecked}
-use Rattle.journal_check.specs.Frames.{IsFrame, most_input}
-use Rattle.report.specs.script_codec.specs.Frames.{script_part, text_part}
+use Rattle.journal_check.specs.{CheckStatuses.check_end, FirstWrong.IsChecked, Frames.IsFrame, Frames.most_input, declared.printing.Printed.Printed, declared.status.CheckStatus.CheckStatus}
 
 abbrev Decided : Type 0
 Decided = Result (CheckStatus × Printed) NoMemory

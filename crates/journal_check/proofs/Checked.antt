@@ -1,25 +1,13 @@
 -- The answer of a check, over the device that took the steps which the text claims.
 use Rattle.std.proofs.Common.{◌≡◌, Ok, Err, Option, Bool, true, false, ℕ, ◌+◌, ◌≤◌, min, List, length, take, sym, subst, arith}
-use Rattle.std.specs.Prelude.{IfOk}
-use Rattle.std.specs.declared.result.Result.{Result}
-use Rattle.std.proofs.lemmas.List.Sums.{count_by-le-length}
+use Rattle.std.{specs.Prelude.IfOk, specs.declared.result.Result.Result, proofs.lemmas.List.Sums.count_by-le-length}
 use Rattle.region_config.specs.Configurations.{Configuration}
 use Rattle.region_config.proofs.Faultless
-use Rattle.device_plain.specs.Devices.{Plain}
-use Rattle.journal_core.specs.Merging.{Numbered}
-use Rattle.journal_core.specs.declared.entries.Entry.{Entry}
-use Rattle.report.specs.script_codec.specs.declared.scripts.Script.{Script}
-use Rattle.report.specs.script_codec.specs.Covering.{is_line}
-use Rattle.report.specs.script_codec.specs.Scripts.{IsScript}
-use Rattle.device_plain.specs.device_rules.specs.Legal.{Legal}
-use Rattle.report.specs.Texts.{text}
-use Rattle.journal_check.specs.Claims.{behind_line}
-use Rattle.journal_check.specs.FirstWrong.{IsFirstWrong, IsJournalOf, IsRightText}
-use Rattle.journal_check.specs.Following.{IsFollowed}
-use Rattle.journal_check.specs.Parting.{PartAt}
-use Rattle.journal_check.specs.Replaying.{IsCompared, IsDeviceOf}
-use Rattle.journal_check.proofs.Deciding.{covers_whole, no_all, no_some}
-use Rattle.journal_check.proofs.Feeds.{feeds}
+use Rattle.device_plain.specs.{Devices.Plain, device_rules.specs.Legal.Legal}
+use Rattle.journal_core.specs.{Merging.Numbered, declared.entries.Entry.Entry}
+use Rattle.report.specs.{script_codec.specs.declared.scripts.Script.Script, script_codec.specs.Covering.is_line, script_codec.specs.Scripts.IsScript, Texts.text}
+use Rattle.journal_check.{proofs.Deciding.covers_whole, proofs.Deciding.no_all, proofs.Deciding.no_some, proofs.Feeds.feeds, specs.Claims.behind_line}
+use Rattle.journal_check.specs.{FirstWrong.IsFirstWrong, FirstWrong.IsJournalOf, FirstWrong.IsRightText, Following.IsFollowed, Parting.PartAt, Replaying.IsCompared, Replaying.IsDeviceOf}
 
 -- it took no more steps than there are lines
 pub few_steps : (s : Script) (given : List ℕ) (journal : List Entry) (all : Bool) → length s.lines ≤ 65536 → IsFollowed s given journal all → length journal ≤ 65536

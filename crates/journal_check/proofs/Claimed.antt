@@ -1,11 +1,7 @@
 -- The line of an entry claims the entry's line of the script.
 use Rattle.std.proofs.Common.{◌≡◌, ℕ, ◌<◌, ◌^◌, List, [], ◌∷◌, ◌++◌, ◌+◌, ◌-◌, ◌*◌, fold, append_assoc, refl, ap, ◌∙◌, arith}
-use Rattle.std.specs.Prelude.{decimal, if◌then◌else◌}
-use Rattle.std.specs.List.{AllByRecursion}
-use Rattle.std.specs.Str.Parse.{AllDigits}
-use Rattle.std.proofs.lemmas.Bool.{ne_eqb}
-use Rattle.std.proofs.lemmas.Fmt.{decimal_is_IsNumeral, digits_value-decimal}
-use Rattle.std.proofs.lemmas.Str.Parse.{FoldsDigits, IsNumeralModel, numerals_by_fold, tells_digits}
+use Rattle.std.proofs.lemmas.{Bool.ne_eqb, Fmt.decimal_is_IsNumeral, Fmt.digits_value-decimal, Str.Parse.FoldsDigits, Str.Parse.IsNumeralModel, Str.Parse.numerals_by_fold, Str.Parse.tells_digits}
+use Rattle.std.specs.{List.AllByRecursion, Prelude.decimal, Prelude.if◌then◌else◌, Str.Parse.AllDigits}
 use Rattle.edge_io.specs.Words.{number_in}
 use Rattle.journal_core.specs.declared.entries.Entry.{Entry}
 use Rattle.report.specs.Texts.{entry_line, actor_name, act_name, reply_words, rest_of_line}

@@ -1,17 +1,12 @@
 -- The lines of a text that are claimed, one more at a time.
 use Rattle.std.proofs.Common.{◌≡◌, ℕ, zero, suc, ◌-◌, ◌<◌, ◌≤◌, min, List, [], ◌∷◌, ◌++◌, length, count_by, refl, sym, ap, subst, ◌∙◌, arith}
-use Rattle.std.proofs.lemmas.List.{length_push}
-use Rattle.std.proofs.lemmas.Option.{slice_get_within}
+use Rattle.std.proofs.lemmas.{List.length_push, Option.slice_get_within}
 use Rattle.journal_core.specs.declared.entries.Entry.{Entry}
-use Rattle.report.specs.script_codec.specs.declared.script_line.Line.{Line}
-use Rattle.report.specs.script_codec.specs.declared.scripts.Script.{Script}
-use Rattle.report.specs.script_codec.specs.Covering.{is_line}
+use Rattle.report.specs.script_codec.specs.{declared.script_line.Line.Line, declared.scripts.Script.Script, Covering.is_line}
 use Rattle.device_plain.specs.Devices.{Plain}
-use Rattle.journal_check.specs.Claims.{behind_line, claim_in, Claims}
+use Rattle.journal_check.{proofs.CoveringOrders.follows_more, proofs.FrontLaws.due_next, specs.Claims.behind_line, specs.Claims.claim_in, specs.Claims.Claims}
 use Rattle.journal_check.specs.Following.{FollowsPasses, IsClaimedEnd, IsNextInPass, StepsLine, behind_lines, left_after, left_by_entry, without_line}
 use Rattle.journal_check.specs.Fronts.{AreFronts, IsDue, undone_of}
-use Rattle.journal_check.proofs.CoveringOrders.{follows_more}
-use Rattle.journal_check.proofs.FrontLaws.{due_next}
 
 -- The lines of the text claimed the entries, and this is what is left of the text and of the script.
 pub record IsClaimedTo (s : Script) (given : List ℕ) (journal : List Entry) (fronts rest : List ℕ) : Type 0 where

@@ -1,25 +1,14 @@
 -- A legal journal that follows a script is the front of one that covers it, so the lines of its text are right.
 use Rattle.std.proofs.Common.{◌≡◌, inl, inr, arith, ℕ, zero, suc, ◌+◌, ◌-◌, true, ◌&&◌, List, [], ◌∷◌, ◌++◌, length, Option, Some, None, append_assoc, refl, sym, ap, subst, ◌∙◌}
-use Rattle.std.specs.Prelude.{if◌then◌else◌, ◌==◌}
-use Rattle.std.specs.List.{list_all, enumerate_from, flat_map}
-use Rattle.std.proofs.lemmas.Bool.{and_parts, cases_Bool, false≢true}
-use Rattle.std.proofs.lemmas.List.Concat.{flat_map-cons}
-use Rattle.std.specs.Option.{is_some}
+use Rattle.std.proofs.lemmas.{Bool.and_parts, Bool.cases_Bool, Bool.false≢true, List.Concat.flat_map-cons}
+use Rattle.std.specs.{List.list_all, List.enumerate_from, List.flat_map, Option.is_some, Prelude.if◌then◌else◌, Prelude.◌==◌}
 use Rattle.region_config.specs.Configurations.{Configuration}
-use Rattle.journal_core.specs.declared.entries.Entry.{Entry}
-use Rattle.journal_core.specs.Entries.{effects}
-use Rattle.report.specs.script_codec.specs.declared.script_line.Line.{Line}
-use Rattle.report.specs.script_codec.specs.declared.scripts.Script.{Script}
-use Rattle.report.specs.script_codec.specs.Covering.{Covers}
-use Rattle.report.specs.script_codec.specs.Scripts.{is_sound_line}
-use Rattle.report.specs.script_codec.proofs.CoveringLaws.{runs_cover}
+use Rattle.journal_core.specs.{declared.entries.Entry.Entry, Entries.effects}
+use Rattle.report.specs.{Texts.text, Texts.first_line, Texts.entry_line, Texts.entry_lines, Texts.all_records, Texts.state_lines, script_codec.proofs.CoveringLaws.runs_cover}
+use Rattle.report.specs.script_codec.specs.{Covering.Covers, Scripts.is_sound_line, declared.script_line.Line.Line, declared.scripts.Script.Script}
 use Rattle.device_plain.specs.device_rules.specs.Legal.{Legal}
-use Rattle.report.specs.Texts.{text, first_line, entry_line, entry_lines, all_records, state_lines}
-use Rattle.journal_check.specs.Following.{without_line, FollowsPasses, left_after}
-use Rattle.journal_check.specs.FirstWrong.{IsRightTo}
-use Rattle.journal_check.specs.Lines.{first_lines, with_first}
-use Rattle.journal_check.proofs.Completing.{RanOn, run_on}
-use Rattle.journal_check.proofs.CoveringOrders.{covers_after}
+use Rattle.journal_check.{proofs.Completing.RanOn, proofs.Completing.run_on, proofs.CoveringOrders.covers_after, specs.FirstWrong.IsRightTo}
+use Rattle.journal_check.specs.{Following.without_line, Following.FollowsPasses, Following.left_after, Lines.first_lines, Lines.with_first}
 
 abbrev left_lines : List Line → List Entry → List Line
 left_lines lines [] = lines

@@ -1,33 +1,20 @@
 -- What the first wrong line of a text is, by the journal whose lines it claims and by where it parts from that journal's text.
 use Rattle.std.proofs.Common.{◌≡◌, ◌≢◌, inl, inr, Bool, true, false, ℕ, zero, suc, ◌+◌, ◌-◌, ◌<◌, ◌≤◌, ◌^◌, min, List, [], ◌∷◌, ◌++◌, length, map, take, drop, count_by, Some, append-nil, refl, sym, ap, subst, ◌∙◌, arith}
-use Rattle.std.specs.Prelude.{slice_get}
-use Rattle.std.specs.List.{AllByRecursion, list_all}
-use Rattle.std.proofs.lemmas.List.{length-append, length-map, length-take, take-append-drop, take_all}
-use Rattle.std.proofs.lemmas.List.Sums.{count_by-le-length, sum_by-append}
-use Rattle.region_config.specs.Configurations.{Configuration}
-use Rattle.region_config.specs.Soundness.{IsSound}
-use Rattle.journal_core.specs.declared.entries.Entry.{Entry}
-use Rattle.journal_core.specs.Entries.{effects}
-use Rattle.journal_core.proofs.EachSteps.{Each-front}
-use Rattle.report.specs.script_codec.specs.declared.script_line.Line.{Line}
-use Rattle.report.specs.script_codec.specs.declared.scripts.Script.{Script}
-use Rattle.report.specs.script_codec.specs.Covering.{Covers, is_line}
-use Rattle.report.specs.script_codec.specs.Scripts.{is_sound_line}
+use Rattle.std.proofs.lemmas.List.{length-append, length-map, length-take, take-append-drop, take_all, Sums.count_by-le-length, Sums.sum_by-append}
+use Rattle.std.specs.{List.AllByRecursion, List.list_all, Prelude.slice_get}
+use Rattle.region_config.specs.{Configurations.Configuration, Soundness.IsSound}
+use Rattle.journal_core.{specs.declared.entries.Entry.Entry, specs.Entries.effects, proofs.EachSteps.Each-front}
+use Rattle.report.specs.{Texts.text, Texts.all_records, Texts.entry_lines, Texts.first_line, Texts.state_lines, script_codec.specs.Covering.Covers, script_codec.specs.Covering.is_line}
+use Rattle.report.specs.script_codec.specs.{Scripts.is_sound_line, declared.script_line.Line.Line, declared.scripts.Script.Script}
 use Rattle.device_plain.specs.device_rules.specs.Legal.{Legal, Meets}
-use Rattle.report.specs.Texts.{text, all_records, entry_lines, first_line, state_lines}
-use Rattle.journal_check.specs.Claims.{behind_line, claim_in, Claims}
-use Rattle.journal_check.specs.FirstWrong.{IsFirstWrong, IsRightText, IsRightTo}
-use Rattle.journal_check.specs.Following.{FollowsPasses, IsClaimedEnd, IsNextInPass, behind_lines, left_after, left_by_entry}
-use Rattle.journal_check.specs.Lines.{first_lines}
-use Rattle.journal_check.specs.Parting.{PartAt}
 use Rattle.journal_check.proofs.Agreeing.{agree, begun_lines, lines_same, next_one, other_claims}
 use Rattle.journal_check.proofs.Completed.{AreThere, GoesOn, HasFront, enough, goes_on, right_so_far, text_front}
-use Rattle.journal_check.proofs.CoveringOrders.{covers_after, covers_follows, follows_front, lt_cases, one_fewer}
-use Rattle.journal_check.proofs.EntryLines.{IsSmall}
-use Rattle.journal_check.proofs.Feeds.{AreFirstLines, alike_lines, are_fewer, feeds, fewer_lines, lines_are, same_byte}
-use Rattle.journal_check.proofs.Sharing.{claimed_same}
-use Rattle.journal_check.proofs.Small.{small, small_front}
-use Rattle.journal_check.proofs.Unstamped.{SameLines, effects_same, same_journal, unstamped}
+use Rattle.journal_check.proofs.{CoveringOrders.covers_after, CoveringOrders.covers_follows, CoveringOrders.follows_front, CoveringOrders.lt_cases, CoveringOrders.one_fewer, EntryLines.IsSmall}
+use Rattle.journal_check.proofs.{Feeds.AreFirstLines, Feeds.alike_lines, Feeds.are_fewer, Feeds.feeds, Feeds.fewer_lines, Feeds.lines_are, Feeds.same_byte, Sharing.claimed_same}
+use Rattle.journal_check.proofs.{Small.small, Small.small_front, Unstamped.SameLines, Unstamped.effects_same, Unstamped.same_journal, Unstamped.unstamped}
+use Rattle.journal_check.specs.{Claims.behind_line, Claims.claim_in, Claims.Claims, FirstWrong.IsFirstWrong, FirstWrong.IsRightText, FirstWrong.IsRightTo}
+use Rattle.journal_check.specs.{Following.FollowsPasses, Following.IsClaimedEnd, Following.IsNextInPass, Following.behind_lines, Following.left_after, Following.left_by_entry, Lines.first_lines}
+use Rattle.journal_check.specs.Parting.{PartAt}
 
 -- ---- a script that is followed to its end is covered
 left_count : (s : Script) (journal : List Entry) → FollowsPasses s journal → count_by is_line s.lines ≡ length journal + count_by is_line (left_after s journal).lines

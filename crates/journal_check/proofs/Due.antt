@@ -1,19 +1,10 @@
 -- Which line is due, and why none is.
 use Rattle.std.proofs.Common.{◌≡◌, true, ℕ, ◌-◌, ◌<◌, get_or, List, length, slice_index, Some, refl, sym, ap, ◌∙◌, arith}
-use Rattle.std.specs.Prelude.{slice_get}
-use Rattle.std.specs.List.{list_all}
-use Rattle.std.proofs.lemmas.Option.{same_Some, slice_get_read, slice_get_within}
+use Rattle.std.{specs.Prelude.slice_get, specs.List.list_all, proofs.lemmas.Option.same_Some, proofs.lemmas.Option.slice_get_read, proofs.lemmas.Option.slice_get_within}
 use Rattle.dcd_base.specs.declared.steps.Actor.{Actor}
-use Rattle.journal_core.specs.declared.acts.Act.{Act}
-use Rattle.journal_core.specs.declared.entries.Entry.{Entry}
-use Rattle.report.specs.script_codec.specs.declared.script_line.Line.{Line}
-use Rattle.report.specs.script_codec.specs.declared.scripts.Script.{Script}
-use Rattle.report.specs.script_codec.specs.Covering.{pass_of}
-use Rattle.report.specs.script_codec.specs.Scripts.{is_sound_line}
-use Rattle.journal_check.specs.Following.{IsNextInPass}
-use Rattle.journal_check.specs.Fronts.{AreFronts, undone_of}
-use Rattle.journal_check.proofs.FrontLaws.{IsDueEntry}
-use Rattle.journal_check.proofs.Passing.{line_pass, not_due}
+use Rattle.journal_core.specs.declared.{acts.Act.Act, entries.Entry.Entry}
+use Rattle.report.specs.script_codec.specs.{declared.script_line.Line.Line, declared.scripts.Script.Script, Covering.pass_of, Scripts.is_sound_line}
+use Rattle.journal_check.{specs.Following.IsNextInPass, specs.Fronts.AreFronts, specs.Fronts.undone_of, proofs.FrontLaws.IsDueEntry, proofs.Passing.line_pass, proofs.Passing.not_due}
 
 pub line_read : (s : Script) (lines : List Line) (i : ℕ) (line : Line) (actor : Actor) (lane : ℕ) (act : Act) → lines ≡ s.lines → i < length lines → line ≡ get_or lines i line
     → line ≡ Line.Do actor lane act → slice_get s.lines i ≡ Some (Line.Do actor lane act)

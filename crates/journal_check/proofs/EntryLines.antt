@@ -1,19 +1,11 @@
 -- The line of an entry is one line.
 use Rattle.std.proofs.Common.{◌≡◌, ℕ, zero, suc, ◌/◌, ◌%◌, ◌<◌, ◌^◌, true, not, List, [], ◌∷◌, ◌++◌, slice_index, append_assoc, refl, sym, ap, ◌∙◌, arith}
-use Rattle.std.specs.Prelude.{codes, decimal, ◌==◌}
-use Rattle.std.specs.List.{AllByRecursion, list_all}
-use Rattle.std.specs.Str.Parse.{AllDigits}
-use Rattle.std.specs.Int.{w64, to_be_bytes}
-use Rattle.std.proofs.lemmas.Bool.{and_parts, eq-eqb, false≢true}
-use Rattle.std.proofs.lemmas.Fmt.{decimal_is_IsNumeral}
-use Rattle.std.proofs.lemmas.Str.Parse.{tells_digits}
-use Rattle.dcd_base.specs.declared.steps.Actor.{Actor}
-use Rattle.dcd_base.specs.declared.failures.AccessFault.{AccessFault}
+use Rattle.std.proofs.lemmas.{Bool.and_parts, Bool.eq-eqb, Bool.false≢true, Fmt.decimal_is_IsNumeral, Str.Parse.tells_digits}
+use Rattle.std.specs.{Int.w64, Int.to_be_bytes, List.AllByRecursion, List.list_all, Prelude.codes, Prelude.decimal, Prelude.◌==◌, Str.Parse.AllDigits}
+use Rattle.dcd_base.specs.declared.{steps.Actor.Actor, failures.AccessFault.AccessFault}
 use Rattle.hex.specs.Hex.{encode_lower, encode_with, lower_digits}
 use Rattle.cci_codec.specs.Messages.{response_bytes}
-use Rattle.journal_core.specs.declared.acts.Act.{Act}
-use Rattle.journal_core.specs.declared.acts.Reply.{Reply}
-use Rattle.journal_core.specs.declared.entries.Entry.{Entry}
+use Rattle.journal_core.specs.declared.{acts.Act.Act, acts.Reply.Reply, entries.Entry.Entry}
 use Rattle.report.specs.Texts.{actor_name, act_name, entry_line, fault_number, reply_words, rest_of_line}
 use Rattle.journal_check.proofs.TextLines.{IsWord}
 

@@ -1,13 +1,8 @@
 -- Line feeds, and the first lines of texts that agree.
 use Rattle.std.proofs.Common.{◌≡◌, inl, inr, true, false, cond, ℕ, zero, suc, ◌+◌, ◌<◌, ◌≤◌, List, [], ◌∷◌, ◌++◌, length, take, drop, count_by, Some, refl, sym, ap, ◌∙◌, arith, zero-add}
+use Rattle.std.{proofs.lemmas.Bool.cases_Bool, proofs.lemmas.Bool.false≢true, proofs.lemmas.List.take-append-drop, proofs.lemmas.List.Sums.sum_by-append, specs.Option.is_some}
 use Rattle.std.specs.Prelude.{◌==◌, slice_get, if◌then◌else◌}
-use Rattle.std.specs.Option.{is_some}
-use Rattle.std.proofs.lemmas.Bool.{cases_Bool, false≢true}
-use Rattle.std.proofs.lemmas.List.{take-append-drop}
-use Rattle.std.proofs.lemmas.List.Sums.{sum_by-append}
-use Rattle.journal_check.specs.Lines.{first_lines, with_first}
-use Rattle.journal_check.proofs.Completed.{AreThere, enough, inside}
-use Rattle.journal_check.proofs.CoveringOrders.{lt_cases}
+use Rattle.journal_check.{specs.Lines.first_lines, specs.Lines.with_first, proofs.Completed.AreThere, proofs.Completed.enough, proofs.Completed.inside, proofs.CoveringOrders.lt_cases}
 
 -- how many line feeds there are
 abbrev pub feeds : List ℕ → ℕ

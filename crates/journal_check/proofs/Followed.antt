@@ -1,19 +1,10 @@
 -- What was followed of a text, at its end.
 use Rattle.std.proofs.Common.{◌≡◌, true, false, ℕ, ◌-◌, ◌<◌, ◌≤◌, ◌++◌, min, List, length, count_by, take, drop, sym, ap, ◌∙◌, arith}
-use Rattle.std.specs.List.{list_all}
-use Rattle.std.proofs.Math.Seq.{take-append_seam}
-use Rattle.std.proofs.lemmas.Option.{slice_get_within}
+use Rattle.std.{specs.List.list_all, proofs.Math.Seq.take-append_seam, proofs.lemmas.Option.slice_get_within}
 use Rattle.journal_core.specs.declared.entries.Entry.{Entry}
-use Rattle.report.specs.script_codec.specs.declared.script_line.Line.{Line}
-use Rattle.report.specs.script_codec.specs.declared.scripts.Script.{Script}
-use Rattle.report.specs.script_codec.specs.Covering.{is_line}
-use Rattle.report.specs.script_codec.specs.Scripts.{is_sound_line}
-use Rattle.journal_check.specs.Claims.{claim_in}
-use Rattle.journal_check.specs.Following.{IsFollowed, IsNextInPass}
-use Rattle.journal_check.specs.Fronts.{undone_of}
-use Rattle.journal_check.proofs.Claiming.{IsClaimedTo, none_next}
-use Rattle.journal_check.proofs.FrontLaws.{IsDueEntry}
-use Rattle.journal_check.proofs.Passing.{not_due}
+use Rattle.report.specs.script_codec.specs.{declared.script_line.Line.Line, declared.scripts.Script.Script, Covering.is_line, Scripts.is_sound_line}
+use Rattle.journal_check.{proofs.Claiming.IsClaimedTo, proofs.Claiming.none_next, proofs.FrontLaws.IsDueEntry, proofs.Passing.not_due, specs.Claims.claim_in}
+use Rattle.journal_check.specs.{Following.IsFollowed, Following.IsNextInPass, Fronts.undone_of}
 
 module _ (s : Script) (sound : list_all (is_sound_line s.config.hosts s.lanes) s.lines ≡ true) (few : length s.lines ≤ 65536)
     (given : List ℕ) (journal : List Entry) (fronts rest : List ℕ) (to : IsClaimedTo s given journal fronts rest) where

@@ -1,15 +1,11 @@
 -- Which lines are left to be done, by where each pass stands.
 use Rattle.std.proofs.Common.{◌≡◌, inl, inr, true, false, ℕ, zero, suc, ◌+◌, ◌-◌, ◌<◌, ◌≤◌, List, [], ◌∷◌, length, slice_index, Some, None, refl, sym, ap, ◌∙◌, arith}
+use Rattle.std.proofs.lemmas.{Bool.cases_Bool, Bool.eqb-true, Bool.false≢true, Bool.le-ltb, Bool.lt-ltb, Option.same_Some, Option.slice_get_within}
 use Rattle.std.specs.Prelude.{nat_lt, slice_get, if◌then◌else◌}
-use Rattle.std.proofs.lemmas.Bool.{cases_Bool, eqb-true, false≢true, le-ltb, lt-ltb}
-use Rattle.std.proofs.lemmas.Option.{same_Some, slice_get_within}
 use Rattle.journal_core.specs.declared.entries.Entry.{Entry}
-use Rattle.report.specs.script_codec.specs.declared.script_line.Line.{Line}
-use Rattle.report.specs.script_codec.specs.declared.scripts.Script.{Script}
-use Rattle.report.specs.script_codec.specs.Covering.{IsOfLine, pass_of}
-use Rattle.journal_check.specs.Following.{IsNextInPass, has_pass}
+use Rattle.report.specs.script_codec.specs.{declared.script_line.Line.Line, declared.scripts.Script.Script, Covering.IsOfLine, Covering.pass_of}
+use Rattle.journal_check.{proofs.CoveringOrders.all_false, proofs.CoveringOrders.each_false, proofs.CoveringOrders.lt_cases, specs.Following.IsNextInPass, specs.Following.has_pass}
 use Rattle.journal_check.specs.Fronts.{AreFronts, IsDue, pass_front, undone, undone_of}
-use Rattle.journal_check.proofs.CoveringOrders.{all_false, each_false, lt_cases}
 
 -- ---- lists that have the same items
 pub same_items : {X : Type 0} (xs ys : List X) → ((i : ℕ) → slice_get xs i ≡ slice_get ys i) → xs ≡ ys

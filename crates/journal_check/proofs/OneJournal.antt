@@ -1,17 +1,10 @@
 -- A text tells its journal.
 use Rattle.std.proofs.Common.{◌≡◌, Bool, true, false, ◌&&◌, ℕ, ◌+◌, List, [], ◌∷◌, ◌++◌, length, map, refl, sym, ap, ◌∙◌, arith}
-use Rattle.std.specs.Prelude.{nat_le, ◌==◌, if◌then◌else◌}
-use Rattle.std.proofs.lemmas.Bool.{and_parts, eqb-true}
+use Rattle.std.{specs.Prelude.nat_le, specs.Prelude.◌==◌, specs.Prelude.if◌then◌else◌, proofs.lemmas.Bool.and_parts, proofs.lemmas.Bool.eqb-true}
 use Rattle.region_config.proofs.Faultless
-use Rattle.journal_core.specs.declared.entries.Entry.{Entry}
-use Rattle.journal_core.specs.Entries.{EachFrom, is_control}
-use Rattle.journal_core.specs.Merging.{IsStamped, commands_in}
-use Rattle.journal_core.proofs.JournalSteps.{commands_in-push}
-use Rattle.report.specs.script_codec.specs.declared.scripts.Script.{Script}
-use Rattle.report.specs.script_codec.specs.Scripts.{IsScript}
-use Rattle.journal_check.specs.FirstWrong.{IsJournalOf, SameButCounts, without_count}
-use Rattle.journal_check.proofs.Deciding.{one_text}
-use Rattle.journal_check.proofs.Unstamped.{unstamped}
+use Rattle.journal_core.{specs.declared.entries.Entry.Entry, specs.Entries.EachFrom, specs.Entries.is_control, specs.Merging.IsStamped, specs.Merging.commands_in, proofs.JournalSteps.commands_in-push}
+use Rattle.report.specs.script_codec.specs.{declared.scripts.Script.Script, Scripts.IsScript}
+use Rattle.journal_check.{specs.FirstWrong.IsJournalOf, specs.FirstWrong.SameButCounts, specs.FirstWrong.without_count, proofs.Deciding.one_text, proofs.Unstamped.unstamped}
 
 -- the number of a stamp, by the commands before it
 stamp_number : (b : Bool) (number count before : ℕ)

@@ -1,10 +1,7 @@
 -- What is known of a text once another was written into the sink that compares with it.
 use Rattle.std.proofs.Common.{◌≡◌, ◌≢◌, inl, inr, Bool, true, false, ◌&&◌, ℕ, zero, suc, ◌≤◌, List, [], ◌∷◌, ◌++◌, length, map, take, Option, Some, None, append_assoc, append-nil, refl, sym, ap, subst, ◌∙◌, arith}
-use Rattle.std.specs.Prelude.{◌==◌, slice_get}
-use Rattle.std.specs.Option.{option_to_list}
-use Rattle.std.proofs.lemmas.Bool.{cases_Bool, eq-eqb, eqb-true}
-use Rattle.std.proofs.lemmas.List.{length-take, take_all, take-append-le}
-use Rattle.std.proofs.lemmas.Option.{none-some, same_Some, slice_get_past}
+use Rattle.std.proofs.lemmas.{Bool.cases_Bool, Bool.eq-eqb, Bool.eqb-true, List.length-take, List.take_all, List.take-append-le, Option.none-some, Option.same_Some, Option.slice_get_past}
+use Rattle.std.specs.{Option.option_to_list, Prelude.◌==◌, Prelude.slice_get}
 use Rattle.dcd_base.specs.Streams.{HasRisen, Passes, taken_after}
 use Rattle.journal_check.specs.Parting.{IsParted, PartAt, Parted, PartsAt, has_agreed, parted_taken, parted_told}
 

@@ -1,23 +1,14 @@
 -- What is left where a pass goes on behind a line, and what is left before all.
 use Rattle.std.proofs.Common.{◌≡◌, inl, inr, Bool, true, false, ◌&&◌, ℕ, zero, suc, ◌+◌, ◌-◌, ◌*◌, ◌<◌, ◌≤◌, List, [], ◌∷◌, length, set, slice_index, Some, None, refl, sym, ap, subst, ◌∙◌, arith}
-use Rattle.std.specs.Prelude.{nat_lt, slice_get, if◌then◌else◌}
-use Rattle.std.specs.List.{list_all}
-use Rattle.std.proofs.lemmas.Bool.{and_parts, cases_Bool, eq-eqb, false≢true, ltb-true}
-use Rattle.std.proofs.lemmas.List.{get_or-set_other, get_or-set_same, get_or_past}
-use Rattle.std.proofs.lemmas.Nat.{mul-add-lt}
-use Rattle.std.proofs.Math.Nat.{mul_comm}
-use Rattle.std.proofs.lemmas.Option.{slice_get_within}
+use Rattle.std.proofs.{Math.Nat.mul_comm, lemmas.Bool.and_parts, lemmas.Bool.cases_Bool, lemmas.Bool.eq-eqb, lemmas.Bool.false≢true, lemmas.Bool.ltb-true}
+use Rattle.std.proofs.lemmas.{List.get_or-set_other, List.get_or-set_same, List.get_or_past, Nat.mul-add-lt, Option.slice_get_within}
+use Rattle.std.specs.{List.list_all, Prelude.nat_lt, Prelude.slice_get, Prelude.if◌then◌else◌}
 use Rattle.dcd_base.specs.declared.steps.Actor.{Actor}
-use Rattle.journal_core.specs.declared.acts.Act.{Act}
-use Rattle.journal_core.specs.declared.entries.Entry.{Entry}
-use Rattle.journal_core.specs.Entries.{fits}
-use Rattle.report.specs.script_codec.specs.declared.script_line.Line.{Line}
-use Rattle.report.specs.script_codec.specs.declared.scripts.Script.{Script}
-use Rattle.report.specs.script_codec.specs.Covering.{pass_of}
-use Rattle.report.specs.script_codec.specs.Scripts.{is_lane, is_sound_line}
+use Rattle.journal_core.specs.{declared.acts.Act.Act, declared.entries.Entry.Entry, Entries.fits}
+use Rattle.report.specs.script_codec.specs.{declared.script_line.Line.Line, declared.scripts.Script.Script, Covering.pass_of, Scripts.is_lane, Scripts.is_sound_line}
+use Rattle.journal_check.proofs.CoveringOrders.{lt_cases, nat_cases, now_mark, others_kept}
 use Rattle.journal_check.specs.Following.{IsNextInPass, has_pass, without_line}
 use Rattle.journal_check.specs.Fronts.{AreFronts, IsDue, IsNextFront, pass_front, undone, undone_of}
-use Rattle.journal_check.proofs.CoveringOrders.{lt_cases, nat_cases, now_mark, others_kept}
 use Rattle.journal_check.proofs.FrontLaws.{IsDueEntry, front_is, is_done, is_left, kept, look, next_due, past, same_items, there, undone_line, undone_past}
 
 none_some : {X : Type 0} (x : X) → None ≡ Some x → ⊥

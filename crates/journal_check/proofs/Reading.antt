@@ -1,7 +1,6 @@
 -- Reading what a line claims, byte by byte.
 use Rattle.std.proofs.Common.{◌≡◌, inl, inr, true, false, ℕ, zero, suc, ◌+◌, ◌-◌, ◌*◌, ◌<◌, min, fold, List, [], ◌∷◌, length, drop, slice_index, refl, sym, ap, ◌∙◌, arith}
-use Rattle.std.specs.Prelude.{◌==◌, if◌then◌else◌}
-use Rattle.std.proofs.lemmas.Bool.{cases_Bool}
+use Rattle.std.{specs.Prelude.◌==◌, specs.Prelude.if◌then◌else◌, proofs.lemmas.Bool.cases_Bool}
 use Rattle.journal_check.specs.Claims.{behind, first_word}
 
 -- ---- what stands behind a byte

@@ -1,35 +1,17 @@
 -- The numbers of each entry of a legal journal that covers a script have 64 bits.
 use Rattle.std.proofs.Common.{Bool, true, false, ℕ, ◌-◌, ◌<◌, ◌≤◌, ◌^◌, List, [], ◌∷◌, ◌++◌, length, Ok, Err, sym, subst, arith}
-use Rattle.std.specs.Prelude.{IsTrue, Result, if◌then◌else◌}
-use Rattle.std.specs.List.{AllByRecursion, range_with_len}
-use Rattle.std.proofs.lemmas.Bool.{ltb-true}
-use Rattle.std.proofs.lemmas.List.{length-take}
-use Rattle.std.proofs.lemmas.List.FromFn.{length-range_with_len}
-use Rattle.std.proofs.lemmas.List.Sums.{count_by-le-length, length-filter}
-use Rattle.std.proofs.lemmas.Option.{slice_get_within}
-use Rattle.dcd_base.specs.declared.failures.AccessFault.{AccessFault}
-use Rattle.dcd_base.specs.declared.ids.HostId.{HostId}
-use Rattle.dcd_base.specs.declared.media.Place.{Place}
-use Rattle.dcd_base.specs.declared.steps.Actor.{Actor}
+use Rattle.std.proofs.lemmas.{Bool.ltb-true, List.length-take, List.FromFn.length-range_with_len, List.Sums.count_by-le-length, List.Sums.length-filter, Option.slice_get_within}
+use Rattle.std.specs.{List.AllByRecursion, List.range_with_len, Prelude.IsTrue, Prelude.Result, Prelude.if◌then◌else◌}
+use Rattle.dcd_base.specs.declared.{failures.AccessFault.AccessFault, ids.HostId.HostId, media.Place.Place, steps.Actor.Actor}
 use Rattle.dcd_codes.specs.declared.rules.Rule.{Rule}
 use Rattle.cci_codec.specs.declared.messages.Request.{Request}
 use Rattle.media_map.specs.Places.{locate}
-use Rattle.region_config.specs.Configurations.{Configuration}
-use Rattle.region_config.specs.Granules.{granule_total}
-use Rattle.region_config.specs.Soundness.{IsSound}
-use Rattle.journal_core.specs.declared.acts.Act.{Act}
-use Rattle.journal_core.specs.declared.acts.Reply.{Reply}
-use Rattle.journal_core.specs.declared.entries.Entry.{Entry}
+use Rattle.region_config.specs.{Configurations.Configuration, Granules.granule_total, Soundness.IsSound}
+use Rattle.journal_core.specs.{Entries.effects, Entries.EachFrom, Entries.fits, Holders.holds, declared.acts.Act.Act, declared.acts.Reply.Reply, declared.entries.Entry.Entry}
 use Rattle.journal_core.specs.declared.outcome.Effect.{Effect}
-use Rattle.journal_core.specs.Entries.{effects, EachFrom, fits}
-use Rattle.journal_core.specs.Holders.{holds}
-use Rattle.report.specs.script_codec.specs.declared.script_line.Line.{Line}
-use Rattle.report.specs.script_codec.specs.declared.scripts.Script.{Script}
-use Rattle.report.specs.script_codec.specs.Covering.{Covers, IsOfLine}
+use Rattle.report.specs.script_codec.specs.{declared.script_line.Line.Line, declared.scripts.Script.Script, Covering.Covers, Covering.IsOfLine}
 use Rattle.device_plain.specs.device_rules.specs.Answers.{host_result_in, manager_result, reply_with, scrubbed}
-use Rattle.device_plain.specs.device_rules.specs.Legal.{Legal, Meets, access_at, granted_reply, right_answer}
-use Rattle.device_plain.specs.device_rules.specs.Outcomes.{Outcome}
-use Rattle.device_plain.specs.device_rules.specs.Tags.{dirty_granules, is_dirty, status}
+use Rattle.device_plain.specs.device_rules.specs.{Legal.Legal, Legal.Meets, Legal.access_at, Legal.granted_reply, Legal.right_answer, Outcomes.Outcome, Tags.dirty_granules, Tags.is_dirty, Tags.status}
 use Rattle.device_plain.specs.device_rules.specs.Views.{view_of}
 use Rattle.fm_payloads.specs.ManagerPayloads.{manager_request}
 use Rattle.journal_check.proofs.EntryLines.{IsSmall, IsSmallActor, IsSmallReply}

@@ -1,16 +1,11 @@
 -- The step of a line is of the line.
 use Rattle.std.proofs.Common.{◌≡◌, Ok, Err, ℕ, ◌-◌, Some, sym, ap, ◌∙◌}
-use Rattle.std.specs.Prelude.{slice_get, OnOk}
-use Rattle.std.specs.declared.result.Result.{Result}
-use Rattle.std.proofs.lemmas.Option.{same_Some}
+use Rattle.std.{specs.Prelude.slice_get, specs.Prelude.OnOk, specs.declared.result.Result.Result, proofs.lemmas.Option.same_Some}
 use Rattle.dcd_base.specs.declared.steps.Actor.{Actor}
 use Rattle.device_plain.specs.Devices.{Appends, Plain}
 use Rattle.journal_core.specs.declared.acts.Act.{Act}
-use Rattle.report.specs.script_codec.specs.declared.script_line.Line.{Line}
-use Rattle.report.specs.script_codec.specs.declared.scripts.Script.{Script}
-use Rattle.report.specs.script_codec.specs.Covering.{pass_of}
-use Rattle.journal_check.specs.Following.{IsNumbered, StepsLine}
-use Rattle.journal_check.proofs.Due.{actor_of, lane_of}
+use Rattle.report.specs.script_codec.specs.{declared.script_line.Line.Line, declared.scripts.Script.Script, Covering.pass_of}
+use Rattle.journal_check.{specs.Following.IsNumbered, specs.Following.StepsLine, proofs.Due.actor_of, proofs.Due.lane_of}
 
 apart : (actor : Actor) (lane : ℕ) (act : Act) → Line.Mark ≡ Line.Do actor lane act → ⊥
 apart actor lane act same = cc

@@ -1,35 +1,15 @@
 -- Stamps tell nothing: a journal without them is legal too, and the lines of its entries fix it.
 use Rattle.std.proofs.Common.{◌≡◌, ℕ, ◌+◌, ◌-◌, List, [], ◌∷◌, ◌++◌, map, refl, sym, ap, subst, ◌∙◌}
-use Rattle.std.specs.Prelude.{slice_get, if◌then◌else◌}
-use Rattle.std.specs.declared.result.Result.{Result}
-use Rattle.std.specs.declared.result.Result.TheVariants.{Ok, Err}
-use Rattle.std.proofs.lemmas.List.Concat.{flat_map-cons}
-use Rattle.std.proofs.lemmas.List.Folds.{fold-map}
-use Rattle.std.proofs.lemmas.List.{map-append}
-use Rattle.dcd_base.specs.declared.media.Place.{Place}
-use Rattle.dcd_base.specs.declared.failures.AccessFault.{AccessFault}
+use Rattle.std.{proofs.lemmas.List.map-append, proofs.lemmas.List.Concat.flat_map-cons, proofs.lemmas.List.Folds.fold-map, proofs.lemmas.Option.same_Some, specs.List.list_any}
+use Rattle.std.specs.{Prelude.slice_get, Prelude.if◌then◌else◌, declared.result.Result.Result, declared.result.Result.TheVariants.Ok, declared.result.Result.TheVariants.Err}
+use Rattle.dcd_base.specs.declared.{media.Place.Place, failures.AccessFault.AccessFault, ids.HostId.HostId, steps.Actor.Actor}
 use Rattle.media_map.specs.Places.{locate}
-use Rattle.journal_core.specs.Holders.{holds}
-use Rattle.device_plain.specs.device_rules.specs.Answers.{answer}
-use Rattle.device_plain.specs.device_rules.specs.Hosts.{changes_of, moves}
-use Rattle.std.specs.List.{list_any}
+use Rattle.journal_core.specs.{Holders.holds, declared.acts.Act.Act, declared.acts.Reply.Reply, declared.outcome.Effect.Effect, declared.entries.Entry.Entry, Entries.effects, Entries.EachFrom}
+use Rattle.device_plain.specs.device_rules.specs.{Answers.answer, Hosts.changes_of, Hosts.moves, Legal.Legal, Legal.Meets, Legal.right_answer, Legal.word_of, Legal.word_after, Legal.access_at}
 use Rattle.device_plain.specs.device_rules.proofs.Answered
-use Rattle.std.proofs.lemmas.Option.{same_Some}
-use Rattle.dcd_base.specs.declared.ids.HostId.{HostId}
-use Rattle.dcd_base.specs.declared.steps.Actor.{Actor}
 use Rattle.region_config.specs.Configurations.{Configuration}
-use Rattle.journal_core.specs.declared.acts.Act.{Act}
-use Rattle.journal_core.specs.declared.acts.Reply.{Reply}
-use Rattle.journal_core.specs.declared.outcome.Effect.{Effect}
-use Rattle.journal_core.specs.declared.entries.Entry.{Entry}
-use Rattle.journal_core.specs.Entries.{effects, EachFrom}
-use Rattle.report.specs.script_codec.specs.declared.script_line.Line.{Line}
-use Rattle.report.specs.script_codec.specs.declared.scripts.Script.{Script}
-use Rattle.report.specs.script_codec.specs.Covering.{IsOfLine}
-use Rattle.device_plain.specs.device_rules.specs.Legal.{Legal, Meets, right_answer, word_of, word_after, access_at}
-use Rattle.journal_check.specs.Following.{left_by_entry, without_line, FollowsPasses}
-use Rattle.journal_check.proofs.CoveringOrders.{in_pass as pass_in}
-use Rattle.journal_check.proofs.Due.{actor_of as actor_in}
+use Rattle.report.specs.script_codec.specs.{declared.script_line.Line.Line, declared.scripts.Script.Script, Covering.IsOfLine}
+use Rattle.journal_check.{specs.Following.left_by_entry, specs.Following.without_line, specs.Following.FollowsPasses, proofs.CoveringOrders.in_pass as pass_in, proofs.Due.actor_of as actor_in}
 
 abbrev pub unstamped : Entry → Entry
 unstamped e = record e { stamp = record { number = 0; count = 0 } }

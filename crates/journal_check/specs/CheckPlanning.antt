@@ -1,18 +1,9 @@
 -- What is to come of an input, and how it is printed.
 use Rattle.std.specs.Prelude.{◌≡◌, ◌≢◌, ℕ, ◌<◌, ◌≤◌, List, [], ◌∷◌, length, codes, decimal, Option, Some, None}
 use Rattle.edge_io.specs.Meanings.{Meaning, asks_nothing}
-use Rattle.report.specs.script_codec.specs.declared.scripts.Script.{Script}
-use Rattle.report.specs.script_codec.specs.declared.faults.ScriptFault.{ScriptFault}
-use Rattle.report.specs.script_codec.specs.Reading.{first_fault}
-use Rattle.report.specs.script_codec.specs.Scripts.{ReadsScript}
-use Rattle.report.specs.Texts.{line_of}
-use Rattle.report.specs.Refusals.{refusal_line}
-use Rattle.journal_check.specs.declared.printing.Printed.{Printed}
-use Rattle.journal_check.specs.declared.status.CheckStatus.{CheckStatus}
-use Rattle.journal_check.specs.CheckStatuses.{check_end}
-use Rattle.journal_check.specs.FirstWrong.{IsChecked}
-use Rattle.journal_check.specs.Frames.{most_input, IsFrame}
-use Rattle.report.specs.script_codec.specs.Frames.{needed, script_part, text_part}
+use Rattle.report.specs.{Refusals.refusal_line, Texts.line_of, script_codec.specs.Frames.needed, script_codec.specs.Frames.script_part, script_codec.specs.Frames.text_part}
+use Rattle.report.specs.script_codec.specs.{Reading.first_fault, Scripts.ReadsScript, declared.faults.ScriptFault.ScriptFault, declared.scripts.Script.Script}
+use Rattle.journal_check.specs.{declared.printing.Printed.Printed, declared.status.CheckStatus.CheckStatus, CheckStatuses.check_end, FirstWrong.IsChecked, Frames.most_input, Frames.IsFrame}
 
 unfoldable pub yes_line : List ℕ
 yes_line = line_of (codes "yes" ∷ [])

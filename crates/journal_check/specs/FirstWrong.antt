@@ -1,12 +1,8 @@
 -- The first line of a text that stands in no text of a journal of the script.
 use Rattle.std.specs.Prelude.{◌≡◌, ℕ, ◌<◌, List, map, Option, Some, None}
-use Rattle.journal_core.specs.declared.entries.Entry.{Entry}
-use Rattle.journal_core.specs.Merging.{Numbered}
-use Rattle.report.specs.script_codec.specs.declared.scripts.Script.{Script}
-use Rattle.report.specs.script_codec.specs.Covering.{Covers}
-use Rattle.device_plain.specs.device_rules.specs.Legal.{Exclusive, Legal}
-use Rattle.device_plain.specs.isolation_laws.specs.Solo.{Isolated}
-use Rattle.report.specs.Texts.{text}
+use Rattle.journal_core.specs.{declared.entries.Entry.Entry, Merging.Numbered}
+use Rattle.report.specs.{script_codec.specs.declared.scripts.Script.Script, script_codec.specs.Covering.Covers, Texts.text}
+use Rattle.device_plain.specs.{device_rules.specs.Legal.Exclusive, device_rules.specs.Legal.Legal, isolation_laws.specs.Solo.Isolated}
 use Rattle.journal_check.specs.Lines.{first_lines}
 
 -- It is the text of a legal journal that covers the script.

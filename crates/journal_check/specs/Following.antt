@@ -3,11 +3,8 @@ use Rattle.std.specs.Prelude.{◌≡◌, ◌≢◌, ℕ, zero, suc, ◌-◌, ◌
 use Rattle.std.specs.List.{list_all}
 use Rattle.dcd_base.specs.declared.steps.Actor.{Actor}
 use Rattle.device_plain.specs.Devices.{Plain}
-use Rattle.journal_core.specs.declared.acts.Act.{Act}
-use Rattle.journal_core.specs.declared.entries.Entry.{Entry}
-use Rattle.report.specs.script_codec.specs.declared.script_line.Line.{Line}
-use Rattle.report.specs.script_codec.specs.declared.scripts.Script.{Script}
-use Rattle.report.specs.script_codec.specs.Covering.{IsOfLine, is_line, pass_of}
+use Rattle.journal_core.specs.declared.{acts.Act.Act, entries.Entry.Entry}
+use Rattle.report.specs.script_codec.specs.{declared.script_line.Line.Line, declared.scripts.Script.Script, Covering.IsOfLine, Covering.is_line, Covering.pass_of}
 use Rattle.journal_check.specs.Claims.{behind_line, claim_in, Claims}
 
 -- the lines with a mark at this index, so that all others keep their numbers

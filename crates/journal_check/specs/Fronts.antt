@@ -1,8 +1,6 @@
 -- Which line each pass of a script has to do next.
 use Rattle.std.specs.Prelude.{◌≡◌, ℕ, suc, ◌+◌, ◌-◌, ◌*◌, ◌<◌, ◌≤◌, nat_lt, true, false, List, [], ◌∷◌, length, slice_get, slice_index, Some, if◌then◌else◌}
-use Rattle.report.specs.script_codec.specs.declared.script_line.Line.{Line}
-use Rattle.report.specs.script_codec.specs.declared.scripts.Script.{Script}
-use Rattle.report.specs.script_codec.specs.Covering.{pass_of}
+use Rattle.report.specs.script_codec.specs.{declared.script_line.Line.Line, declared.scripts.Script.Script, Covering.pass_of}
 use Rattle.journal_check.specs.Following.{IsNumbered, has_pass}
 
 -- where the pass of a line stands: the index of its next line; a mark is of no pass

@@ -1,10 +1,7 @@
 -- What holds of each entry and those before it, at each place of the journal.
 use Rattle.std.proofs.Common.{◌≡◌, List, [], ◌∷◌, ◌++◌, refl, sym, ap, subst, append-nil, append_assoc}
-use Rattle.std.specs.Prelude.{All}
-use Rattle.std.proofs.lemmas.List.Elements.{All-cons, All-nil}
-use Rattle.journal_core.specs.declared.entries.Entry.{Entry}
-use Rattle.journal_core.specs.Entries.{Each, EachFrom}
-use Rattle.journal_core.proofs.EachSteps.{EachFrom-at}
+use Rattle.std.{specs.Prelude.All, proofs.lemmas.List.Elements.All-cons, proofs.lemmas.List.Elements.All-nil}
+use Rattle.journal_core.{specs.declared.entries.Entry.Entry, specs.Entries.Each, specs.Entries.EachFrom, proofs.EachSteps.EachFrom-at}
 
 from_places : (before : List Entry) (P : List Entry → Entry → Type 0) (journal : List Entry) →
     ((a : List Entry) (e : Entry) (b : List Entry) → journal ≡ a ++ e ∷ b → P (before ++ a) e) → EachFrom before P journal

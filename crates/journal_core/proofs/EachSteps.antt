@@ -1,7 +1,6 @@
 -- What holds of each entry and those before it, over one more entry and over a part.
 use Rattle.std.proofs.Common.{List, [], ◌∷◌, ◌++◌, sym, subst, append_assoc, append-nil}
-use Rattle.journal_core.specs.declared.entries.Entry.{Entry}
-use Rattle.journal_core.specs.Entries.{Each, EachFrom}
+use Rattle.journal_core.specs.{declared.entries.Entry.Entry, Entries.Each, Entries.EachFrom}
 
 -- one more entry at the end
 pub EachFrom-push : (before : List Entry) (P : List Entry → Entry → Type 0) (journal : List Entry) (e : Entry) → EachFrom before P journal → P (before ++ journal) e → EachFrom before P (journal ++ e ∷ [])

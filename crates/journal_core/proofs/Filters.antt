@@ -1,9 +1,7 @@
 -- What a filter keeps of a list, and of many lists.
 use Rattle.std.proofs.Common.{◌≡◌, ◌≢◌, inl, inr, ℕ, zero, suc, Bool, true, false, cond, List, [], ◌∷◌, ◌++◌, refl, sym, ap, ◌∙◌, subst, append-nil, arith}
-use Rattle.std.specs.Prelude.{flat_map, All}
-use Rattle.std.specs.List.{filter}
-use Rattle.std.proofs.lemmas.Bool.{cases_Bool}
-use Rattle.std.proofs.lemmas.List.Elements.{All-append, All-head, All-nil, All-tail, filter-append}
+use Rattle.std.proofs.lemmas.{Bool.cases_Bool, List.Elements.All-append, List.Elements.All-head, List.Elements.All-nil, List.Elements.All-tail, List.Elements.filter-append}
+use Rattle.std.specs.{List.filter, Prelude.flat_map, Prelude.All}
 use mathlib.Core.Option.{some, some-injective, some-ne-none}
 use lib.ListN.{get_elem?}
 

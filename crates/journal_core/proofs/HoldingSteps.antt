@@ -1,10 +1,8 @@
 -- Who holds a granule, and what was done to it, after one more effect and after some more.
-use Rattle.std.proofs.Common.{◌≡◌, ℕ, false, List, [], ◌∷◌, ◌++◌}
+use Rattle.std.proofs.{Common.◌≡◌, Common.ℕ, Common.false, Common.List, Common.[], Common.◌∷◌, Common.◌++◌, lemmas.List.Sums.fold-append, lemmas.List.Sums.fold_push}
 use Rattle.std.specs.Prelude.{fold}
-use Rattle.std.proofs.lemmas.List.Sums.{fold-append, fold_push}
 use Rattle.cci_codec.specs.dcd_base.specs.declared.ids.HostId.{HostId}
-use Rattle.journal_core.specs.declared.outcome.Effect.{Effect}
-use Rattle.journal_core.specs.Holders.{holding_after, holds, taking_after, is_taken, soil_after, is_soiled}
+use Rattle.journal_core.specs.{declared.outcome.Effect.Effect, Holders.holding_after, Holders.holds, Holders.taking_after, Holders.is_taken, Holders.soil_after, Holders.is_soiled}
 
 -- ---- one more effect
 pub holds-push : (h : HostId) (g : ℕ) (past : List Effect) (e : Effect) → holds h g (past ++ e ∷ []) ≡ holding_after h g (holds h g past) e

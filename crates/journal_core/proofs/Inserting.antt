@@ -1,12 +1,10 @@
 -- Where an entry goes that is put into a journal, and a list that is in order by itself.
 use Rattle.std.proofs.Common.{◌≡◌, Bool, true, false, cond, List, [], ◌∷◌, ◌++◌, refl, ap, ◌∙◌, append-nil, arith}
+use Rattle.std.proofs.lemmas.{Bool.Decides.nat_tests, List.Elements.All-cons, List.Elements.All-head, List.Elements.All-nil, List.Elements.All-tail, List.Elements.All-weaker}
 use Rattle.std.specs.Prelude.{fold, All, IsFalse}
-use Rattle.std.proofs.lemmas.Bool.Decides.{nat_tests}
-use Rattle.std.proofs.lemmas.List.Elements.{All-cons, All-head, All-nil, All-tail, All-weaker}
 use Rattle.cci_codec.specs.dcd_base.specs.declared.steps.Stamp.{Stamp}
+use Rattle.journal_core.{proofs.Rising.rising_head, proofs.Rising.rising_tail, specs.Merging.Rising, specs.Merging.in_order, specs.Merging.insert_entry, specs.Merging.is_later}
 use Rattle.journal_core.specs.declared.entries.Entry.{Entry}
-use Rattle.journal_core.specs.Merging.{Rising, in_order, insert_entry, is_later}
-use Rattle.journal_core.proofs.Rising.{rising_head, rising_tail}
 
 -- The entry was put behind a front and before what is later.
 pub record IsPut (e : Entry) (journal after : List Entry) : Type 0 where

@@ -1,15 +1,9 @@
 -- A journal with one more entry: its effects, its commands and the calls of a pass.
 use Rattle.std.proofs.Common.{◌≡◌, ◌+◌, cond, List, [], ◌∷◌, ◌++◌, ap, ◌∙◌, append-nil, zero-add}
+use Rattle.std.{proofs.lemmas.Grind.flat_map-append, proofs.lemmas.List.Quantifiers.all_pairs_push, proofs.lemmas.List.Sums.fold-append, proofs.lemmas.List.Sums.sum_by-append, specs.List.All}
 use Rattle.std.specs.Prelude.{fold, IsFalse, if◌then◌else◌}
-use Rattle.std.specs.List.{All}
-use Rattle.std.proofs.lemmas.List.Quantifiers.{all_pairs_push}
-use Rattle.std.proofs.lemmas.Grind.{flat_map-append}
-use Rattle.std.proofs.lemmas.List.Sums.{fold-append, sum_by-append}
-use Rattle.journal_core.specs.declared.outcome.Effect.{Effect}
-use Rattle.journal_core.specs.declared.entries.Entry.{Entry}
-use Rattle.journal_core.specs.Entries.{effects, is_control}
-use Rattle.journal_core.specs.Merging.{commands_in, is_later, Rising, IsStamped, Numbered}
-use Rattle.journal_core.proofs.EachSteps.{Each-push}
+use Rattle.journal_core.{proofs.EachSteps.Each-push, specs.Entries.effects, specs.Entries.is_control}
+use Rattle.journal_core.specs.{Merging.commands_in, Merging.is_later, Merging.Rising, Merging.IsStamped, Merging.Numbered, declared.entries.Entry.Entry, declared.outcome.Effect.Effect}
 
 -- the effects of one more entry come last
 pub effects-push : (journal : List Entry) (e : Entry) → effects (journal ++ e ∷ []) ≡ effects journal ++ e.effects

@@ -1,15 +1,8 @@
 -- A filter of a merge, and what all its entries are.
-use Rattle.std.proofs.Common.{◌≡◌, Bool, List, [], ◌∷◌, ◌++◌, ap, ◌∙◌}
-use Rattle.std.specs.Prelude.{flat_map, All, IsFalse}
-use Rattle.std.specs.List.{filter}
-use Rattle.std.proofs.lemmas.List.Elements.{All-append}
-use Rattle.std.proofs.lemmas.List.Kept.{AllPairs-filter}
-use Rattle.journal_core.specs.declared.entries.Entry.{Entry}
-use Rattle.journal_core.specs.Merging.{Rising, has_stamp, is_later, merged}
-use Rattle.journal_core.proofs.Filters.{filter_swapped}
-use Rattle.journal_core.proofs.Merges.{merged-once, merged-rising, merged-ties}
-use Rattle.journal_core.proofs.Inserting.{in_order_before_none}
-use Rattle.journal_core.proofs.Pushing.{all_in_order}
+use Rattle.std.proofs.{Common.◌≡◌, Common.Bool, Common.List, Common.[], Common.◌∷◌, Common.◌++◌, Common.ap, Common.◌∙◌, lemmas.List.Elements.All-append, lemmas.List.Kept.AllPairs-filter}
+use Rattle.std.specs.{List.filter, Prelude.flat_map, Prelude.All, Prelude.IsFalse}
+use Rattle.journal_core.proofs.{Filters.filter_swapped, Inserting.in_order_before_none, Merges.merged-once, Merges.merged-rising, Merges.merged-ties, Pushing.all_in_order}
+use Rattle.journal_core.specs.{Merging.Rising, Merging.has_stamp, Merging.is_later, Merging.merged, declared.entries.Entry.Entry}
 
 -- a filter of a merge is the merge of the filtered lists
 pub merged-filter : (p : Entry → Bool) (control : List Entry) (shards : List (List Entry)) (kept : List Entry) (parts : List (List Entry)) →

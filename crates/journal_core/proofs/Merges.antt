@@ -1,23 +1,12 @@
 -- The order of the stamps, as a sort by their two numbers has it.
 use Rattle.std.proofs.Common.{◌≡◌, ℕ, suc, ◌+◌, get_or, Bool, true, false, cond, take, take_all, length, ◌≤◌, ◌++◌, ◌&&◌, ◌||◌, ◌==◌, not, arith, List, [], ◌∷◌, refl, sym, ap, ◌∙◌, subst}
-use Rattle.std.specs.Prelude.{fold, flat_map, IsFalse}
-use Rattle.std.specs.List.{filter, All}
-use Rattle.std.proofs.lemmas.List.Elements.{All-cons, filter-append}
-use Rattle.std.proofs.lemmas.List.Kept.{AllPairs-cons}
-use Rattle.std.specs.declared.cmp.Ordering.{Ordering}
+use Rattle.std.proofs.lemmas.{Bool.Decides.nat_tests, Cmp.then_total, List.Elements.All-cons, List.Elements.filter-append, List.Kept.AllPairs-cons, List.Sorted.ranks_by}
+use Rattle.std.specs.{Cmp.IsStrictWeakOrder, Cmp.nat_cmp_total, Cmp.on_total, List.filter, List.All, List.Sorted.IsSortedByKey, List.Sorted.IsStableByKey, List.Sorted.ties}
+use Rattle.std.specs.{Ordering.is_lt, Ordering.nat_cmp, Ordering.ordering_then, Prelude.fold, Prelude.flat_map, Prelude.IsFalse, declared.cmp.Ordering.Ordering}
 use Rattle.std.specs.declared.cmp.Ordering.TheVariants.{Less, Equal, Greater}
-use Rattle.std.specs.Ordering.{is_lt, nat_cmp, ordering_then}
-use Rattle.std.specs.List.Sorted.{IsSortedByKey, IsStableByKey, ties}
-use Rattle.std.specs.Cmp.{IsStrictWeakOrder, nat_cmp_total, on_total}
-use Rattle.std.proofs.lemmas.Cmp.{then_total}
-use Rattle.std.proofs.lemmas.List.Sorted.{ranks_by}
-use Rattle.std.proofs.lemmas.Bool.Decides.{nat_tests}
-use Rattle.cci_codec.specs.dcd_base.specs.declared.steps.Stamp.{Stamp}
+use Rattle.cci_codec.specs.dcd_base.specs.declared.steps.{Stamp.Stamp, Actor.Actor}
+use Rattle.journal_core.specs.{Merging.is_later, Merging.insert_entry, Merging.in_order, Merging.merged, Merging.has_stamp, Merging.Rising, declared.acts.Act.Act, declared.acts.Reply.Reply}
 use Rattle.journal_core.specs.declared.entries.Entry.{Entry}
-use Rattle.cci_codec.specs.dcd_base.specs.declared.steps.Actor.{Actor}
-use Rattle.journal_core.specs.declared.acts.Act.{Act}
-use Rattle.journal_core.specs.declared.acts.Reply.{Reply}
-use Rattle.journal_core.specs.Merging.{is_later, insert_entry, in_order, merged, has_stamp, Rising}
 use Rattle.journal_core.proofs.Sorting.{Rises, rises_from_sorted, sorted_once, NoneBelow, insert_all_rises, insert_all_stable, insert_all_length, insert_by, insert_all, stable_sort}
 
 abbrev pub stamp_key : Entry → ℕ × ℕ

@@ -1,12 +1,9 @@
 -- One more entry in a merge.
 use Rattle.std.proofs.Common.{◌≡◌, Bool, true, false, cond, List, [], ◌∷◌, ◌++◌, refl, sym, ap, ◌∙◌, append-nil, append_assoc}
+use Rattle.std.proofs.lemmas.List.{Elements.All-cons, Elements.All-head, Elements.All-nil, Elements.All-tail, Sums.fold-append}
 use Rattle.std.specs.Prelude.{All, IsFalse}
-use Rattle.std.proofs.lemmas.List.Elements.{All-cons, All-head, All-nil, All-tail}
-use Rattle.std.proofs.lemmas.List.Sums.{fold-append}
+use Rattle.journal_core.{proofs.Inserting.insert_all, proofs.Merges.inserted-last, specs.Merging.in_order, specs.Merging.insert_entry, specs.Merging.is_later, specs.Merging.merged}
 use Rattle.journal_core.specs.declared.entries.Entry.{Entry}
-use Rattle.journal_core.specs.Merging.{in_order, insert_entry, is_later, merged}
-use Rattle.journal_core.proofs.Inserting.{insert_all}
-use Rattle.journal_core.proofs.Merges.{inserted-last}
 
 -- what all entries are, all are that are put in order
 inserted_all : (P : Entry → Type 0) (e : Entry) (journal : List Entry) → P e → All P journal → All P (insert_entry e journal)

@@ -1,8 +1,7 @@
 -- Lists whose stamps rise: their first entry and what is behind it.
 use Rattle.std.proofs.Common.{◌≡◌, suc, List, [], ◌∷◌, drop, subst, arith}
 use Rattle.std.specs.Prelude.{All, IsFalse}
-use Rattle.journal_core.specs.declared.entries.Entry.{Entry}
-use Rattle.journal_core.specs.Merging.{Rising, is_later}
+use Rattle.journal_core.specs.{declared.entries.Entry.Entry, Merging.Rising, Merging.is_later}
 
 -- no list rises behind its first entry alone
 pub rising_tail : (e : Entry) (entries : List Entry) → Rising (e ∷ entries) → Rising entries

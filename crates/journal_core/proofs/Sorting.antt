@@ -1,11 +1,7 @@
 -- Sorting by inserting, and that a stable sort has only one outcome.
 use Rattle.std.proofs.Common.{◌≡◌, ℕ, suc, ◌<◌, ◌⊎◌, inl, inr, Bool, true, false, cond, ◌&&◌, not, List, [], ◌∷◌, ◌++◌, length, get_or, refl, sym, ap, ◌∙◌, subst, add-one, append-nil, length-append, append_assoc, arith}
-use Rattle.std.specs.Prelude.{fold}
-use Rattle.std.specs.List.{filter}
-use Rattle.std.specs.List.Sorted.{ties, IsSortedBy, IsStableBy}
-use Rattle.std.specs.Cmp.{IsStrictWeakOrder}
-use Rattle.std.proofs.lemmas.List.Sorted.{sorted_far}
-use Rattle.std.proofs.lemmas.List.Elements.{filter-append}
+use Rattle.std.{proofs.lemmas.List.Elements.filter-append, proofs.lemmas.List.Sorted.sorted_far, specs.Cmp.IsStrictWeakOrder, specs.List.filter}
+use Rattle.std.specs.{List.Sorted.ties, List.Sorted.IsSortedBy, List.Sorted.IsStableBy, Prelude.fold}
 
 pub two : (b : Bool) → (b ≡ true) ⊎ (b ≡ false)
 two true = inl refl

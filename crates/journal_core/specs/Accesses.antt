@@ -1,13 +1,7 @@
 -- Loads and stores as entries: what was asked, what was replied, and that nothing else changed.
 use Rattle.std.specs.Prelude.{ℕ, [], Option, Some, None, Result, Ok, Err}
-use Rattle.cci_codec.specs.dcd_base.specs.declared.failures.AccessFault.{AccessFault}
-use Rattle.cci_codec.specs.dcd_base.specs.declared.ids.HostId.{HostId}
-use Rattle.cci_codec.specs.dcd_base.specs.declared.steps.Actor.{Actor}
-use Rattle.cci_codec.specs.dcd_base.specs.declared.steps.Stamp.{Stamp}
-use Rattle.journal_core.specs.declared.acts.Act.{Act}
-use Rattle.journal_core.specs.declared.acts.Reply.{Reply}
-use Rattle.journal_core.specs.declared.entries.Entry.{Entry}
-use Rattle.journal_core.specs.declared.loads_and_stores.Kind.{Kind}
+use Rattle.cci_codec.specs.dcd_base.specs.declared.{failures.AccessFault.AccessFault, ids.HostId.HostId, steps.Actor.Actor, steps.Stamp.Stamp}
+use Rattle.journal_core.specs.declared.{acts.Act.Act, acts.Reply.Reply, entries.Entry.Entry, loads_and_stores.Kind.Kind}
 
 -- the entry of an access: it has no effects
 abbrev pub access_entry : ℕ → ℕ → HostId → Act → Reply → Stamp → Entry

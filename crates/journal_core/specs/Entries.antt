@@ -1,11 +1,7 @@
 -- The entries of a journal: their effects, the next one, who may do what, and what holds of each.
 use Rattle.std.specs.Prelude.{ℕ, ◌+◌, nat_lt, true, false, Bool, List, flat_map, length, [], ◌∷◌, ◌++◌}
-use Rattle.journal_core.specs.declared.outcome.Effect.{Effect}
-use Rattle.journal_core.specs.declared.entries.Entry.{Entry}
-use Rattle.journal_core.specs.declared.acts.Act.{Act}
-use Rattle.journal_core.specs.declared.acts.Reply.{Reply}
-use Rattle.cci_codec.specs.dcd_base.specs.declared.steps.Actor.{Actor}
-use Rattle.cci_codec.specs.dcd_base.specs.declared.steps.Stamp.{Stamp}
+use Rattle.journal_core.specs.declared.{outcome.Effect.Effect, entries.Entry.Entry, acts.Act.Act, acts.Reply.Reply}
+use Rattle.cci_codec.specs.dcd_base.specs.declared.steps.{Actor.Actor, Stamp.Stamp}
 
 -- the effects of the entries, in order
 abbrev pub effects : List Entry → List Effect

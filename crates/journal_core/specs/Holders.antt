@@ -1,10 +1,8 @@
 -- Who holds which granule, and what was done to it since it was last zeroed.
 use Rattle.std.specs.Prelude.{ℕ, Bool, true, false, ◌&&◌, ◌==◌, List, filter, fold, if◌then◌else◌}
-use Rattle.cci_codec.specs.dcd_base.specs.declared.ids.HostId.{HostId}
-use Rattle.region_config.specs.Configurations.{Configuration}
+use Rattle.cci_codec.specs.dcd_base.specs.{declared.ids.HostId.HostId, Words.has_granule}
+use Rattle.region_config.specs.{Configurations.Configuration, Granules.hosts_of}
 use Rattle.journal_core.specs.declared.outcome.Effect.{Effect}
-use Rattle.cci_codec.specs.dcd_base.specs.Words.{has_granule}
-use Rattle.region_config.specs.Granules.{hosts_of}
 
 -- whether the host holds the granule after one more effect: a Take gives it, a Leave takes it away
 abbrev pub holding_after : HostId → ℕ → Bool → Effect → Bool

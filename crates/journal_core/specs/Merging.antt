@@ -1,10 +1,7 @@
 -- The order of a whole journal.
 use Rattle.std.specs.Prelude.{ℕ, ◌+◌, All, Bool, ◌&&◌, ◌||◌, ◌==◌, nat_le, nat_lt, List, [], ◌∷◌, ◌++◌, count_by, flat_map, fold, if◌then◌else◌, IsTrue, IsFalse, AllPairs, map, filter}
 use Rattle.cci_codec.specs.dcd_base.specs.declared.steps.Stamp.{Stamp}
-use Rattle.journal_core.specs.declared.acts.Act.{Act}
-use Rattle.journal_core.specs.declared.entries.Entry.{Entry}
-use Rattle.journal_core.specs.declared.acts.Reply.{Reply}
-use Rattle.journal_core.specs.Entries.{Each, is_control}
+use Rattle.journal_core.specs.{declared.acts.Act.Act, declared.entries.Entry.Entry, declared.acts.Reply.Reply, Entries.Each, Entries.is_control}
 
 -- whether the stamp of e comes after that of f
 abbrev pub is_later : Stamp → Stamp → Bool

@@ -1,10 +1,6 @@
 -- What is seen of a step that is lent.
 use Rattle.cci_codec.specs.declared.messages.Response.{Response}
-use Rattle.journal_core.specs.declared.acts.Act.{Act}
-use Rattle.journal_core.specs.declared.acts.Reply.{Reply}
-use Rattle.journal_core.specs.declared.seen.ActKind.{ActKind}
-use Rattle.journal_core.specs.declared.seen.ReplySeen.{ReplySeen}
-use Rattle.journal_core.specs.declared.seen.ResponseSeen.{ResponseSeen}
+use Rattle.journal_core.specs.declared.{acts.Act.Act, acts.Reply.Reply, seen.ActKind.ActKind, seen.ReplySeen.ReplySeen, seen.ResponseSeen.ResponseSeen}
 
 -- what kind of act it is
 abbrev pub kind_of : Act → ActKind

@@ -1,11 +1,8 @@
 -- Bytes of two numbers that are alike, by the bits in which the numbers differ.
 use Rattle.std.proofs.Common.{◌≡◌, ℕ, zero, suc, ◌+◌, ◌-◌, ◌*◌, ◌/◌, ◌%◌, ◌^◌, ◌<◌, ◌≤◌, ◌≢◌, get_or, sym, ap, ◌∙◌, inl, inr, arith}
-use Rattle.std.specs.Int.{bit_at, trailing_zeros, w64, to_le_bytes}
-use Rattle.std.specs.Int.Bits.{bit_xor}
-use Rattle.std.proofs.lemmas.Nat.{mod-pow-add, shr-shr, xor_lt}
-use Rattle.std.proofs.lemmas.Bool.{cases_lt}
+use Rattle.std.proofs.{Math.Nat.div-le_self, lemmas.Bool.cases_lt, lemmas.Nat.mod-pow-add, lemmas.Nat.shr-shr, lemmas.Nat.xor_lt}
 use Rattle.std.proofs.lemmas.Nat.Bits.{bit_at-lt, bit_at-suc, bit_at-trailing_zeros, bit_at-zero, bit_at_above, bit_at_lowest, bit_at_xor}
-use Rattle.std.proofs.Math.Nat.{div-le_self}
+use Rattle.std.specs.Int.{bit_at, trailing_zeros, w64, to_le_bytes, Bits.bit_xor}
 
 -- a byte of a number
 byte_at : (n k : ℕ) → k < 8 → get_or (to_le_bytes w64 n) k 0 ≡ n / 2 ^ (8 * k) % 2 ^ 8

@@ -1,14 +1,10 @@
 -- The bytes of a slot, told one after another.
 use Rattle.std.proofs.Common.{◌≡◌, ◌≢◌, ℕ, zero, suc, ◌+◌, ◌-◌, ◌*◌, ◌^◌, ◌<◌, ◌≤◌, List, [], ◌∷◌, ◌++◌, length, get_or, take, set, refl, sym, ap, subst, ◌∙◌, arith}
+use Rattle.std.proofs.lemmas.{List.get_or-set_other, List.get_or-set_same, List.length-set, List.take-set, List.take_more, Nat.from_le_bytes-to_le_bytes_8}
 use Rattle.std.specs.Int.{w64, from_le_bytes, to_le_bytes}
-use Rattle.std.proofs.lemmas.List.{get_or-set_other, get_or-set_same, length-set, take-set, take_more}
-use Rattle.std.proofs.lemmas.Nat.{from_le_bytes-to_le_bytes_8}
 use Rattle.dcd_base.proofs.Fields.{IsBytes}
-use Rattle.kept_journal.specs.declared.coding.Coder.{Coder}
-use Rattle.kept_journal.specs.Coding.{AddsBytes, CodesTo}
-use Rattle.kept_journal.specs.Slots.{slots_in, with_slot}
-use Rattle.kept_journal.proofs.CoderSteps.{codes_byte, codes_none, codes_number}
-use Rattle.kept_journal.proofs.Slotting.{IsBytes-set, bytes_small, with_slot-same}
+use Rattle.kept_journal.proofs.{CoderSteps.codes_byte, CoderSteps.codes_none, CoderSteps.codes_number, Slotting.IsBytes-set, Slotting.bytes_small, Slotting.with_slot-same}
+use Rattle.kept_journal.specs.{Coding.AddsBytes, Coding.CodesTo, Slots.slots_in, Slots.with_slot, declared.coding.Coder.Coder}
 
 -- From coder a on the first bytes of slot k were told, whose bytes were the old ones and are to be the wanted ones.
 pub record InChange (a b : Coder) (k i : ℕ) (old wanted : List ℕ) : Type 0 where

@@ -1,15 +1,9 @@
 -- What a coder writes, step by step.
 use Rattle.std.proofs.Common.{◌≡◌, ℕ, ◌+◌, ◌*◌, ◌/◌, ◌%◌, ◌<◌, ◌≤◌, Bool, true, cond, List, [], ◌∷◌, ◌++◌, length, take, set, Some, None, refl, sym, ap, subst, ◌∙◌, arith, append_assoc, append-nil}
-use Rattle.std.specs.Int.{w64, from_le_bytes}
-use Rattle.std.proofs.lemmas.Bool.{le-ltb, lt-ltb}
-use Rattle.std.proofs.lemmas.List.{take_all}
+use Rattle.std.{specs.Int.w64, specs.Int.from_le_bytes, proofs.lemmas.Bool.le-ltb, proofs.lemmas.Bool.lt-ltb, proofs.lemmas.List.take_all}
 use Rattle.dcd_base.proofs.Fields.{IsBytes}
-use Rattle.kept_journal.specs.declared.coding.Coder.{Coder}
-use Rattle.kept_journal.specs.declared.tokens.Token.{Token}
-use Rattle.kept_journal.specs.Coding.{AddsBytes, CodesTo, IsFront}
-use Rattle.kept_journal.specs.Slots.{slots_in, with_byte, with_slot}
-use Rattle.kept_journal.specs.Tokens.{token_of, tokens_in}
-use Rattle.kept_journal.proofs.Slotting.{with_slot-byte}
+use Rattle.kept_journal.{proofs.Slotting.with_slot-byte, specs.Coding.AddsBytes, specs.Coding.CodesTo, specs.Coding.IsFront, specs.Slots.slots_in, specs.Slots.with_byte, specs.Slots.with_slot}
+use Rattle.kept_journal.specs.{Tokens.token_of, Tokens.tokens_in, declared.coding.Coder.Coder, declared.tokens.Token.Token}
 
 -- ---- what bytes tell
 

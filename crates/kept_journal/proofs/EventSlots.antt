@@ -1,10 +1,7 @@
 -- An event that was put into slots, read back.
 use Rattle.std.proofs.Common.{◌≡◌, ℕ, ◌%◌, ◌^◌, ◌<◌, Bool, true, false, refl}
-use Rattle.event_records.specs.declared.events.Event.{Event}
-use Rattle.event_records.specs.declared.events.EventKind.{EventKind}
-use Rattle.event_records.specs.Records.{kind_number}
-use Rattle.dcd_base.specs.Words.{flag_of}
-use Rattle.dcd_base.specs.declared.steps.LogId.{LogId}
+use Rattle.event_records.specs.{declared.events.Event.Event, declared.events.EventKind.EventKind, Records.kind_number}
+use Rattle.dcd_base.specs.{Words.flag_of, declared.steps.LogId.LogId}
 use Rattle.std.proofs.lemmas.Bool.{lt-ltb}
 use Rattle.journal_core.specs.declared.outcome.HeldKind.{HeldKind}
 use Rattle.kept_journal.specs.declared.slots.TheConstants.{EVENT_KIND, FLAG}

@@ -1,15 +1,11 @@
 -- Effects told as tokens and gathered from them.
 use Rattle.std.proofs.Common.{◌≡◌, ℕ, List, [], ◌∷◌, ◌++◌, None, length, map, suc, arith, refl, sym, ap, ◌∙◌, append_assoc, append-nil}
-use Rattle.std.specs.Prelude.{◌==◌, IsFalse, filter_map, flat_map, true}
-use Rattle.std.proofs.lemmas.Bool.{eqb-true}
+use Rattle.std.{specs.Prelude.◌==◌, specs.Prelude.IsFalse, specs.Prelude.filter_map, specs.Prelude.flat_map, specs.Prelude.true, proofs.lemmas.Bool.eqb-true}
 use Rattle.dcd_base.specs.declared.capacity.Extent.{Extent}
-use Rattle.kept_journal.specs.declared.coding.Coder.{Coder}
-use Rattle.journal_core.specs.declared.outcome.Effect.{Effect}
+use Rattle.kept_journal.{proofs.CoderSteps.nothing_told, specs.Coding.CodesTo, specs.Coding.TellsEffects, specs.Slots.no_slots, specs.Slots.slots_in}
+use Rattle.kept_journal.specs.{Tokens.effect_alone, Tokens.effects_from, Tokens.effects_told, Tokens.tokens_in, Tokens.tokens_of, Tokens.without_extents, declared.coding.Coder.Coder}
 use Rattle.kept_journal.specs.declared.tokens.Token.{Token}
-use Rattle.kept_journal.specs.Coding.{CodesTo, TellsEffects}
-use Rattle.kept_journal.specs.Slots.{no_slots, slots_in}
-use Rattle.kept_journal.specs.Tokens.{effect_alone, effects_from, effects_told, tokens_in, tokens_of, without_extents}
-use Rattle.kept_journal.proofs.CoderSteps.{nothing_told}
+use Rattle.journal_core.specs.declared.outcome.Effect.{Effect}
 
 -- extents wait behind those that wait already
 extents_wait : (waiting xs : List Extent) (tokens : List Token) → effects_from waiting (map Token.More xs ++ tokens) ≡ effects_from (waiting ++ xs) tokens

@@ -1,14 +1,8 @@
 -- Entries and the bytes that they take from the front.
 use Rattle.std.proofs.Common.{◌≡◌, ℕ, suc, ◌+◌, ◌-◌, ◌≤◌, List, [], ◌∷◌, ◌++◌, drop, length, take, refl, sym, ap, subst, ◌∙◌, length-append, arith}
-use Rattle.std.proofs.lemmas.List.{drop-append-le, drop-drop, length-drop, take-append-le, take_all}
-use Rattle.std.proofs.Math.Seq.{drop-append_seam}
-use Rattle.kept_journal.specs.Keeping.{CanBeLent, entries_of, kept_entry, width_of, widths}
-use Rattle.journal_core.specs.Entries.{next_entry, next_stamp}
-use Rattle.journal_core.specs.Merging.{Rising}
-use Rattle.journal_core.specs.declared.entries.Entry.{Entry}
-use Rattle.journal_core.specs.declared.outcome.Effect.{Effect}
-use Rattle.kept_journal.specs.declared.kept_steps.Kept.{Kept}
-use Rattle.journal_core.proofs.Rising.{rising_tail}
+use Rattle.std.proofs.{lemmas.List.drop-append-le, lemmas.List.drop-drop, lemmas.List.length-drop, lemmas.List.take-append-le, lemmas.List.take_all, Math.Seq.drop-append_seam}
+use Rattle.kept_journal.specs.{Keeping.CanBeLent, Keeping.entries_of, Keeping.kept_entry, Keeping.width_of, Keeping.widths, declared.kept_steps.Kept.Kept}
+use Rattle.journal_core.{specs.Entries.next_entry, specs.Entries.next_stamp, specs.Merging.Rising, specs.declared.entries.Entry.Entry, specs.declared.outcome.Effect.Effect, proofs.Rising.rising_tail}
 
 pub no_entries : (before : ℕ) (bytes : List ℕ) → entries_of before [] bytes ≡ []
 unfolding entries_of

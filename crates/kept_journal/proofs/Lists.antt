@@ -1,7 +1,6 @@
 -- The first entry of a list and what is behind it.
 use Rattle.std.proofs.Common.{◌≡◌, ◌+◌, ◌<◌, List, [], ◌∷◌, ◌++◌, drop, get_or, length, length-append, refl, sym, ap, subst, ◌∙◌, append_assoc, arith}
-use Rattle.std.proofs.Math.Seq.{get_or-append_seam}
-use Rattle.std.specs.Prelude.{All, Some, None}
+use Rattle.std.{proofs.Math.Seq.get_or-append_seam, specs.Prelude.All, specs.Prelude.Some, specs.Prelude.None}
 use Rattle.journal_core.specs.declared.entries.Entry.{Entry}
 use Rattle.kept_journal.specs.Lending.{first_entry, first_stamp}
 

@@ -1,17 +1,12 @@
 -- What is next of two lists that rise, put in order as one.
 use Rattle.std.proofs.Common.{◌≡◌, ◌+◌, Bool, true, false, cond, not, List, [], ◌∷◌, ◌++◌, drop, length, refl, sym, ap, ◌∙◌, length-append, arith}
+use Rattle.std.proofs.lemmas.{Bool.Decides.nat_tests, List.Elements.All-append, List.Elements.All-cons, List.Elements.All-weaker, List.Sums.fold-append}
 use Rattle.std.specs.Prelude.{IsFalse, Option}
-use Rattle.std.proofs.lemmas.Bool.Decides.{nat_tests}
-use Rattle.std.proofs.lemmas.List.Elements.{All-append, All-cons, All-weaker}
-use Rattle.std.proofs.lemmas.List.Sums.{fold-append}
 use Rattle.dcd_base.specs.declared.steps.Stamp.{Stamp}
-use Rattle.kept_journal.specs.declared.both.Side.{Side}
-use Rattle.journal_core.specs.declared.entries.Entry.{Entry}
-use Rattle.kept_journal.specs.Lending.{IsNext, first_entry, first_stamp, goes_first}
-use Rattle.journal_core.specs.Merging.{Rising, in_order, insert_entry, is_later}
-use Rattle.journal_core.proofs.Inserting.{first_stays, in_order_alone, in_order_before_none, insert_all}
-use Rattle.journal_core.proofs.Merges.{in_order-length, in_order-rising}
+use Rattle.kept_journal.specs.{declared.both.Side.Side, Lending.IsNext, Lending.first_entry, Lending.first_stamp, Lending.goes_first}
+use Rattle.journal_core.proofs.{Inserting.first_stays, Inserting.in_order_alone, Inserting.in_order_before_none, Inserting.insert_all, Merges.in_order-length, Merges.in_order-rising}
 use Rattle.journal_core.proofs.Rising.{rising_drop, rising_head, rising_tail}
+use Rattle.journal_core.specs.{Merging.Rising, Merging.in_order, Merging.insert_entry, Merging.is_later, declared.entries.Entry.Entry}
 
 not_before : (x y z : Stamp) → is_later x y ≡ false → is_later y z ≡ false → is_later x z ≡ false
 not_before x y z first second = grind (arith, nat_tests)

@@ -1,14 +1,9 @@
 -- Some of many lists, put in order as one.
 use Rattle.std.proofs.Common.{◌≡◌, ℕ, ◌+◌, ◌<◌, ◌≤◌, List, [], ◌++◌, drop, take, take_all, get_or, length, sym, ap, subst, ◌∙◌, append-nil}
-use Rattle.std.specs.Prelude.{flat_map}
-use Rattle.std.proofs.Math.Seq.{take-add}
-use Rattle.std.proofs.lemmas.List.{drop-drop, drop_all, drop_more}
-use Rattle.std.proofs.lemmas.Grind.{flat_map-append}
+use Rattle.std.{specs.Prelude.flat_map, proofs.Math.Seq.take-add, proofs.lemmas.List.drop-drop, proofs.lemmas.List.drop_all, proofs.lemmas.List.drop_more, proofs.lemmas.Grind.flat_map-append}
+use Rattle.journal_core.{proofs.Inserting.in_order_alone, proofs.Merges.in_order-twice, specs.Merging.AllRise, specs.Merging.Rising, specs.Merging.in_order, specs.Merging.merged}
 use Rattle.journal_core.specs.declared.entries.Entry.{Entry}
-use Rattle.journal_core.specs.Merging.{AllRise, Rising, in_order, merged}
 use Rattle.kept_journal.specs.Lending.{some_lists}
-use Rattle.journal_core.proofs.Merges.{in_order-twice}
-use Rattle.journal_core.proofs.Inserting.{in_order_alone}
 
 -- the lists from a place on are those before another and those from it on
 parts_meet : (lists : List (List Entry)) (at n m : ℕ) → some_lists lists at (n + m) ≡ some_lists lists at n ++ some_lists lists (at + n) m

@@ -1,13 +1,8 @@
 -- Numbers in slots: set, set again, and read back.
 use Rattle.std.proofs.Common.{◌≡◌, ℕ, zero, suc, ◌<◌, Bool, true, false, cond, List, [], ◌∷◌, ◌++◌, length, get_or, take, drop, set, refl, sym, ap, ◌∙◌, arith, inl, inr, eqb, take-append-drop}
-use Rattle.std.specs.Int.{w64, from_le_bytes, to_le_bytes}
-use Rattle.std.specs.List.{list_all}
-use Rattle.std.proofs.lemmas.Bool.{and_parts, cases_eq, eq-eqb, eqb-true, ltb-true}
-use Rattle.std.proofs.lemmas.List.{get_or-set_other, get_or-set_same, length-drop, length-take}
-use Rattle.std.proofs.lemmas.Nat.{le_bytes_8}
-use Rattle.dcd_base.specs.Layouts.{is_byte, number_at}
-use Rattle.dcd_base.proofs.Widths.{IsBytes-drop, IsBytes-take, wide_64}
-use Rattle.dcd_base.proofs.Fields.{IsBytes}
+use Rattle.std.proofs.lemmas.{Bool.and_parts, Bool.cases_eq, Bool.eq-eqb, Bool.eqb-true, Bool.ltb-true, List.get_or-set_other, List.get_or-set_same, List.length-drop, List.length-take, Nat.le_bytes_8}
+use Rattle.std.specs.{Int.w64, Int.from_le_bytes, Int.to_le_bytes, List.list_all}
+use Rattle.dcd_base.{specs.Layouts.is_byte, specs.Layouts.number_at, proofs.Widths.IsBytes-drop, proofs.Widths.IsBytes-take, proofs.Widths.wide_64, proofs.Fields.IsBytes}
 use Rattle.kept_journal.specs.Slots.{with_byte, with_slot}
 
 cond_again : (t : Bool) (a b n : ℕ) → cond t b (cond t a n) ≡ cond t b n

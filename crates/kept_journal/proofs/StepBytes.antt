@@ -1,8 +1,7 @@
 -- The bytes of a step behind those of the steps before.
 use Rattle.std.proofs.Common.{◌≡◌, ℕ, List, ◌++◌, drop, sym, ap, ◌∙◌}
 use Rattle.journal_core.specs.declared.outcome.Effect.{Effect}
-use Rattle.kept_journal.specs.Keeping.{HoldsStep}
-use Rattle.kept_journal.specs.Tokens.{effects_told}
+use Rattle.kept_journal.specs.{Keeping.HoldsStep, Tokens.effects_told}
 
 -- ---- with the bytes that tell the effects
 

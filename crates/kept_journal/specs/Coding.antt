@@ -1,10 +1,7 @@
 -- What a coder has written.
 use Rattle.std.specs.Prelude.{◌≡◌, ℕ, ◌++◌, List, None, IsFalse}
 use Rattle.journal_core.specs.declared.outcome.Effect.{Effect}
-use Rattle.kept_journal.specs.declared.coding.Coder.{Coder}
-use Rattle.kept_journal.specs.declared.tokens.Token.{Token}
-use Rattle.kept_journal.specs.Slots.{slots_in}
-use Rattle.kept_journal.specs.Tokens.{effects_told, tokens_in}
+use Rattle.kept_journal.specs.{declared.coding.Coder.Coder, declared.tokens.Token.Token, Slots.slots_in, Tokens.effects_told, Tokens.tokens_in}
 
 -- All begin with the front.
 pub record IsFront (front all : List ℕ) : Type 0 where

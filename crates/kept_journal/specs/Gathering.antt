@@ -1,9 +1,7 @@
 -- A token among the effects that are gathered.
 use Rattle.std.specs.Prelude.{◌≡◌, List, ◌∷◌}
 use Rattle.dcd_base.specs.declared.capacity.Extent.{Extent}
-use Rattle.kept_journal.specs.declared.gathering.Step.{Step}
-use Rattle.kept_journal.specs.declared.tokens.Token.{Token}
-use Rattle.kept_journal.specs.Tokens.{effects_from}
+use Rattle.kept_journal.specs.{declared.gathering.Step.Step, declared.tokens.Token.Token, Tokens.effects_from}
 
 -- The token is one more extent that waits, or ends an effect, and then other extents wait.
 abbrev pub IsGathered : List Extent → Token → List Extent → Step → Type 0

@@ -1,18 +1,9 @@
 -- Entries as they are kept.
 use Rattle.std.specs.Prelude.{◌≡◌, ◌≤◌, ◌<◌, ◌^◌, ℕ, ◌+◌, ◌-◌, ◌++◌, Bool, true, false, List, [], ◌∷◌, drop, length, take}
-use Rattle.std.specs.Global.{Vec}
-use Rattle.std.specs.Vec.{vec_capacity, vec_len}
+use Rattle.std.specs.{Global.Vec, Vec.vec_capacity, Vec.vec_len}
 use Rattle.dcd_base.specs.declared.steps.Actor.{Actor}
-use Rattle.journal_core.specs.Entries.{next_entry}
-use Rattle.journal_core.specs.Merging.{Rising}
-use Rattle.kept_journal.specs.Tokens.{effects_told}
-use Rattle.journal_core.specs.declared.acts.Act.{Act}
-use Rattle.journal_core.specs.declared.acts.Reply.{Reply}
-use Rattle.journal_core.specs.declared.entries.Entry.{Entry}
-use Rattle.kept_journal.specs.declared.kept_steps.Exchange.{Exchange}
-use Rattle.kept_journal.specs.declared.kept_steps.Kept.{Kept}
-use Rattle.kept_journal.specs.declared.kept_steps.KeptStep.{KeptStep}
-use Rattle.journal_core.specs.declared.outcome.Effect.{Effect}
+use Rattle.journal_core.specs.{Entries.next_entry, Merging.Rising, declared.acts.Act.Act, declared.acts.Reply.Reply, declared.entries.Entry.Entry, declared.outcome.Effect.Effect}
+use Rattle.kept_journal.specs.{Tokens.effects_told, declared.kept_steps.Exchange.Exchange, declared.kept_steps.Kept.Kept, declared.kept_steps.KeptStep.KeptStep}
 
 -- The entries, and how many more there is room for.
 pub record Keeping : Type 0 where

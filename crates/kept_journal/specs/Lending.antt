@@ -1,11 +1,8 @@
 -- Entries that are lent one after another.
 use Rattle.std.specs.Prelude.{◌≡◌, ℕ, Bool, true, false, not, List, [], ◌∷◌, Option, Some, None, drop, flat_map, if◌then◌else◌, take}
 use Rattle.dcd_base.specs.declared.steps.Stamp.{Stamp}
-use Rattle.kept_journal.specs.Keeping.{step_entry}
-use Rattle.journal_core.specs.Merging.{Rising, is_later}
-use Rattle.kept_journal.specs.declared.both.Side.{Side}
-use Rattle.journal_core.specs.declared.entries.Entry.{Entry}
-use Rattle.kept_journal.specs.declared.lending.Lent.{Lent}
+use Rattle.kept_journal.specs.{Keeping.step_entry, declared.both.Side.Side, declared.lending.Lent.Lent}
+use Rattle.journal_core.specs.{Merging.Rising, Merging.is_later, declared.entries.Entry.Entry}
 
 -- the entry that is lent
 abbrev pub lent_entry : Lent → Entry

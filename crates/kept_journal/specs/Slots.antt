@@ -1,15 +1,8 @@
 -- The numbers of a token, each in its slot.
 use Rattle.std.specs.Prelude.{ℕ, ◌%◌, ◌^◌, ◌≡◌, ◌==◌, ◌++◌, Bool, List, if◌then◌else◌, nat_lt, slice_index, slice_set}
 use Rattle.std.specs.Int.{w64, from_le_bytes, to_le_bytes}
-use Rattle.dcd_base.specs.Words.{flag_of}
-use Rattle.dcd_base.specs.declared.capacity.Extent.{Extent}
-use Rattle.dcd_base.specs.declared.capacity.Tag.{Tag}
-use Rattle.dcd_base.specs.declared.media.Run.{Run}
-use Rattle.dcd_base.specs.declared.steps.LogId.{LogId}
-use Rattle.event_records.specs.Records.{kind_number}
-use Rattle.event_records.specs.declared.events.Event.{Event}
-use Rattle.event_records.specs.declared.events.EventKind.{EventKind}
-use Rattle.dcd_base.specs.Layouts.{number_at}
+use Rattle.dcd_base.specs.{Words.flag_of, declared.capacity.Extent.Extent, declared.capacity.Tag.Tag, declared.media.Run.Run, declared.steps.LogId.LogId, Layouts.number_at}
+use Rattle.event_records.specs.{Records.kind_number, declared.events.Event.Event, declared.events.EventKind.EventKind}
 use Rattle.journal_core.specs.declared.outcome.HeldKind.{HeldKind}
 use Rattle.kept_journal.specs.declared.slots.TheConstants.{COUNT, EVENT_HOST, EVENT_KIND, EXTENTS_LEFT, FIRST, FLAG, HANDLE, HOST, LENGTH, LOG, REGION, SEQUENCE, START, TAGS_LEFT, TAG_HIGH, TAG_LOW}
 

@@ -1,23 +1,15 @@
 -- Free blocks as they are chosen: by what is kept, and as runs of the device.
 use Rattle.std.proofs.Common.{◌≡◌, ℕ, zero, suc, ◌+◌, ◌%◌, ◌/◌, ◌<◌, ◌≤◌, true, false, not, ◌==◌, ◌||◌, List, [], ◌∷◌, length, Result, Ok, IfOk, sym, ap, subst, ◌∙◌, arith}
 use Rattle.std.specs.Prelude.{All, if◌then◌else◌}
-use Rattle.event_records.specs.dcd_base.specs.Words.{◌or◌}
-use Rattle.event_records.specs.dcd_base.specs.declared.media.Run.{Run}
-use Rattle.extent_list.specs.dcd_codes.specs.Rules.{◌breaks◌, ByRow}
-use Rattle.extent_list.specs.dcd_codes.specs.declared.refusals.Refusal.{Refusal}
-use Rattle.extent_list.specs.dcd_codes.specs.declared.rules.Rule.{Rule}
-use Rattle.selection.specs.granule_map.specs.Blocks.{free_block_count, longest_free_run}
-use Rattle.selection.specs.granule_map.specs.StateLists.{is_free_at}
-use Rattle.selection.specs.granule_map.specs.declared.states.GranuleState.{GranuleState}
-use Rattle.extent_list.specs.media_map.specs.Places.{IsRun}
-use Rattle.extent_list.specs.media_map.specs.region_config.specs.Configurations.{Configuration}
-use Rattle.extent_list.specs.media_map.specs.region_config.specs.Granules.{first_granule, region_granules, region_of, region_spec}
-use Rattle.extent_list.specs.media_map.specs.region_config.proofs.Faultless.{granules_within}
-use Rattle.extent_list.specs.media_map.specs.region_config.proofs.GranuleLemmas.{region_is}
+use Rattle.event_records.specs.dcd_base.specs.{Words.◌or◌, declared.media.Run.Run}
+use Rattle.extent_list.specs.dcd_codes.specs.{Rules.◌breaks◌, Rules.ByRow, declared.refusals.Refusal.Refusal, declared.rules.Rule.Rule}
+use Rattle.extent_list.specs.media_map.specs.{Places.IsRun, region_config.proofs.Faultless.granules_within, region_config.proofs.GranuleLemmas.region_is}
+use Rattle.extent_list.specs.media_map.specs.region_config.specs.{Configurations.Configuration, Granules.first_granule, Granules.region_granules, Granules.region_of, Granules.region_spec}
 use Rattle.selection.specs.Selections.{AreBetween, contiguous_runs, free_runs, too_few_free}
+use Rattle.selection.specs.granule_map.specs.{Blocks.free_block_count, Blocks.longest_free_run, StateLists.is_free_at, declared.states.GranuleState.GranuleState}
+use Rattle.device_state.specs.declared.state.State.{State}
 use Rattle.device_state.specs.device_rules.specs.Adding.{area_of, by_length_rule, region_free_blocks, region_longest_free, per_block}
 use Rattle.manager_commands.specs.InitiateDynamicCapacityAdd.{block_runs, by_length_runs}
-use Rattle.device_state.specs.declared.state.State.{State}
 
 module _ (s : State) (r need per : ℕ) (states : List GranuleState) (area : Run) (result : Result (List Run) Refusal)
     (states_are : states ≡ s.granules.states) (area_is : area ≡ area_of s.present r) (per_is : per ≡ per_block s.present r) where

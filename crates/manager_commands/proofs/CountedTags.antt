@@ -1,25 +1,13 @@
 -- There are no more open tags than granules, since each has one that no other has.
 use Rattle.std.proofs.Common.{◌≡◌, ℕ, zero, suc, ◌+◌, ◌<◌, ◌≤◌, Bool, true, List, [], ◌∷◌, map, length, refl, ap, subst, ◌∙◌, inl, inr, arith, cond}
-use Rattle.std.specs.Prelude.{count_by}
-use Rattle.std.specs.List.{AllByRecursion}
-use Rattle.std.proofs.lemmas.Bool.{cases_eq, le-leb, lt-ltb, or_left, or_right}
-use Rattle.std.proofs.lemmas.List.Sums.{sum_by-cons}
-use Rattle.event_records.specs.dcd_base.specs.Words.{has_granule, has_in_runs, has_tag, same_tag}
-use Rattle.event_records.specs.dcd_base.specs.declared.capacity.Extent.{Extent}
-use Rattle.event_records.specs.dcd_base.specs.declared.capacity.Tag.{Tag}
-use Rattle.event_records.specs.dcd_base.specs.declared.ids.HostId.{HostId}
-use Rattle.event_records.specs.dcd_base.specs.declared.media.Run.{Run}
-use Rattle.extent_list.specs.media_map.specs.Places.{run_of}
-use Rattle.extent_list.specs.media_map.specs.region_config.specs.Configurations.{Configuration}
-use Rattle.extent_list.specs.media_map.specs.region_config.specs.Granules.{granule_total}
+use Rattle.std.proofs.lemmas.{Bool.cases_eq, Bool.le-leb, Bool.lt-ltb, Bool.or_left, Bool.or_right, List.Sums.sum_by-cons}
+use Rattle.std.specs.{List.AllByRecursion, Prelude.count_by}
+use Rattle.event_records.specs.dcd_base.specs.{Words.has_granule, Words.has_in_runs, Words.has_tag, Words.same_tag, declared.capacity.Extent.Extent, declared.capacity.Tag.Tag}
+use Rattle.event_records.specs.dcd_base.specs.declared.{ids.HostId.HostId, media.Run.Run}
+use Rattle.extent_list.specs.media_map.specs.{Places.run_of, region_config.proofs.Faultless.granules_rise, region_config.specs.Configurations.Configuration, region_config.specs.Granules.granule_total}
 use Rattle.extent_list.specs.media_map.specs.region_config.specs.Soundness.{IsSound}
-use Rattle.extent_list.specs.media_map.specs.region_config.proofs.Faultless.{granules_rise}
-use Rattle.device_state.specs.device_rules.specs.Tags.{tag_runs}
-use Rattle.device_state.specs.device_rules.specs.Pictures.{Picture}
-use Rattle.device_state.specs.device_rules.specs.Standing.{IsMade, IsOpen, Stands}
-use Rattle.device_state.specs.device_rules.proofs.BlockRuns.{block_run}
-use Rattle.device_state.specs.device_rules.proofs.Homes.{supported_whole}
-use Rattle.device_state.specs.device_rules.proofs.TagSteps.{same_tag-self}
+use Rattle.device_state.specs.device_rules.{proofs.BlockRuns.block_run, proofs.Homes.supported_whole, proofs.TagSteps.same_tag-self, specs.Pictures.Picture}
+use Rattle.device_state.specs.device_rules.specs.{Standing.IsMade, Standing.IsOpen, Standing.Stands, Tags.tag_runs}
 
 abbrev sum_below : (ℕ → ℕ) → ℕ → ℕ
 sum_below f zero = 0

@@ -1,8 +1,7 @@
 -- Drafts of one kind of thing alone.
 use Rattle.std.proofs.Common.{◌≡◌, ℕ, List, [], refl, sym, subst}
 use Rattle.journal_core.specs.declared.outcome.Effect.{Effect}
-use Rattle.device_commands.specs.Drafts.{IsOutcome}
-use Rattle.device_commands.specs.declared.draft.Draft.{Draft}
+use Rattle.device_commands.specs.{Drafts.IsOutcome, declared.draft.Draft.Draft}
 use Rattle.device_state.specs.device_rules.specs.Outcomes.{only}
 
 -- of changes

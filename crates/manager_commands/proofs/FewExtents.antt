@@ -1,15 +1,9 @@
 -- A host of a state that a legal journal leads to has few extents.
-use Rattle.std.proofs.Common.{◌<◌, ◌≤◌, List, flat_map, sym, subst, arith}
-use Rattle.std.proofs.lemmas.List.{length-append}
-use Rattle.std.proofs.lemmas.List.Concat.{length-flat_map}
-use Rattle.event_records.specs.dcd_base.specs.declared.capacity.Extent.{Extent}
-use Rattle.event_records.specs.dcd_base.specs.declared.ids.HostId.{HostId}
-use Rattle.extent_list.specs.HostLists.{Lists, extent_total}
-use Rattle.extent_list.specs.media_map.specs.region_config.specs.Configurations.{Configuration}
-use Rattle.device_state.specs.device_rules.proofs.LegalSound.{legal_is_sound}
+use Rattle.std.proofs.{Common.◌<◌, Common.◌≤◌, Common.List, Common.flat_map, Common.sym, Common.subst, Common.arith, lemmas.List.length-append, lemmas.List.Concat.length-flat_map}
+use Rattle.event_records.specs.dcd_base.specs.declared.{capacity.Extent.Extent, ids.HostId.HostId}
+use Rattle.extent_list.specs.{HostLists.Lists, HostLists.extent_total, media_map.specs.region_config.specs.Configurations.Configuration}
+use Rattle.device_state.specs.{StateAfter.IsReached, StateAfter.part_of, declared.state.State.State, device_rules.proofs.LegalSound.legal_is_sound}
 use Rattle.device_state.specs.device_rules.specs.Views.{View, view_of}
-use Rattle.device_state.specs.StateAfter.{IsReached, part_of}
-use Rattle.device_state.specs.declared.state.State.{State}
 
 pub few_extents : (c : Configuration) (s : State) → IsReached c s → (h : HostId) → h < c.hosts → extent_total (part_of s h).lists ≤ 64
 few_extents c s reached h known =

@@ -1,18 +1,11 @@
 -- The states of the granules that are kept tell which of them are free, and which are dirty.
 use Rattle.std.proofs.Common.{◌≡◌, ℕ, zero, suc, ◌+◌, ◌<◌, Bool, List, [], ◌∷◌, length, get_or, refl, sym, ap, ◌∙◌, arith, inl, inr}
-use Rattle.std.specs.Prelude.{count_by, filter}
-use Rattle.std.specs.List.{range_with_len}
-use Rattle.std.proofs.lemmas.Bool.{cases_Bool}
-use Rattle.std.proofs.lemmas.List.Sums.{length-filter}
-use Rattle.selection.specs.granule_map.specs.StateLists.{count_of, is_free_state, same_state}
-use Rattle.selection.specs.granule_map.specs.declared.states.GranuleState.{GranuleState}
-use Rattle.selection.specs.granule_map.specs.Tables.{CellTable, cell_at}
-use Rattle.device_state.specs.device_rules.specs.GranuleCells.{IsCell, status_of}
+use Rattle.std.{specs.Prelude.count_by, specs.Prelude.filter, specs.List.range_with_len, proofs.lemmas.Bool.cases_Bool, proofs.lemmas.List.Sums.length-filter}
+use Rattle.selection.{proofs.Agreeing.Agree, specs.granule_map.specs.StateLists.count_of, specs.granule_map.specs.StateLists.is_free_state, specs.granule_map.specs.StateLists.same_state}
+use Rattle.selection.specs.granule_map.specs.{Tables.CellTable, Tables.cell_at, declared.states.GranuleState.GranuleState}
+use Rattle.device_state.specs.device_rules.specs.{GranuleCells.IsCell, GranuleCells.status_of, Tags.Status, Tags.dirty_granules, Tags.free_granules, Tags.is_dirty, Tags.is_free, Tags.status}
 use Rattle.journal_core.specs.declared.outcome.Effect.{Effect}
-use Rattle.extent_list.specs.media_map.specs.region_config.specs.Configurations.{Configuration}
-use Rattle.extent_list.specs.media_map.specs.region_config.specs.Granules.{granule_total}
-use Rattle.selection.proofs.Agreeing.{Agree}
-use Rattle.device_state.specs.device_rules.specs.Tags.{Status, dirty_granules, free_granules, is_dirty, is_free, status}
+use Rattle.extent_list.specs.media_map.specs.region_config.specs.{Configurations.Configuration, Granules.granule_total}
 
 free_state : (s : GranuleState) → same_state GranuleState.Free s ≡ is_free (status_of s)
 free_state GranuleState.Free = refl

@@ -1,63 +1,32 @@
 -- The row of an add, and what is offered, by what is kept.
 use Rattle.std.proofs.Common.{◌≡◌, ℕ, zero, suc, ◌+◌, ◌%◌, ◌/◌, ◌<◌, ◌≤◌, Bool, true, false, not, ◌==◌, ◌&&◌, ◌||◌, List, [], ◌∷◌, ◌++◌, map, length, Option, Some, None, inl, inr, refl, sym, ap, subst, ◌∙◌, arith, leb, ltb}
-use Rattle.std.specs.Prelude.{All, count_by, flat_map, if◌then◌else◌}
-use Rattle.std.specs.List.{AllByRecursion, list_any, range_with_len}
-use Rattle.std.specs.Option.{is_some}
-use Rattle.std.proofs.lemmas.Bool.{cases_Bool, eq-eqb, eqb-false, false≢true, leb-false, ltb-false, not-false}
-use Rattle.std.proofs.lemmas.List.{length-append, length-map}
-use Rattle.std.proofs.lemmas.List.Concat.{length-flat_map}
-use Rattle.std.proofs.lemmas.List.Folds.{list_any-append}
-use Rattle.std.proofs.lemmas.List.Sums.{length-filter}
-use Rattle.event_records.specs.dcd_base.specs.Words.{◌or◌, has_granule, has_tag, is_zero_tag, same_tag, where_true}
-use Rattle.event_records.specs.dcd_base.specs.declared.capacity.Extent.{Extent}
-use Rattle.event_records.specs.dcd_base.specs.declared.capacity.Tag.{Tag}
-use Rattle.event_records.specs.dcd_base.specs.declared.ids.HostId.{HostId}
-use Rattle.event_records.specs.dcd_base.specs.declared.media.Run.{Run}
-use Rattle.event_records.specs.dcd_base.specs.declared.steps.LogId.{LogId}
+use Rattle.std.proofs.lemmas.{Bool.cases_Bool, Bool.eq-eqb, Bool.eqb-false, Bool.false≢true, Bool.leb-false, Bool.ltb-false, Bool.not-false, List.length-append, List.length-map}
+use Rattle.std.proofs.lemmas.List.{Concat.length-flat_map, Folds.list_any-append, Sums.length-filter}
+use Rattle.std.specs.{List.AllByRecursion, List.list_any, List.range_with_len, Option.is_some, Prelude.All, Prelude.count_by, Prelude.flat_map, Prelude.if◌then◌else◌}
+use Rattle.event_records.specs.dcd_base.specs.{Words.◌or◌, Words.has_granule, Words.has_tag, Words.is_zero_tag, Words.same_tag, Words.where_true, declared.capacity.Extent.Extent}
+use Rattle.event_records.specs.dcd_base.specs.declared.{capacity.Tag.Tag, ids.HostId.HostId, media.Run.Run, steps.LogId.LogId}
 use Rattle.event_records.specs.declared.events.EventKind.{EventKind}
-use Rattle.extent_list.specs.dcd_codes.specs.Rules.{◌breaks◌}
-use Rattle.extent_list.specs.dcd_codes.specs.declared.rules.Rule.{Rule}
-use Rattle.extent_list.specs.ExtentLists.{has_extent_of, real_tags}
-use Rattle.selection.specs.granule_map.specs.StateLists.{is_free_at}
-use Rattle.device_commands.specs.Drafts.{Drafts}
-use Rattle.device_state.specs.device_rules.specs.Views.{lists_in, extents_in, view_after, view_of}
-use Rattle.device_state.specs.StateAfter.{IsStateAfter, part_of}
-use Rattle.device_commands.specs.declared.draft.Draft.{Draft}
-use Rattle.extent_list.specs.HostLists.{Lists, extent_total}
-use Rattle.journal_core.specs.Entries.{effects}
-use Rattle.journal_core.specs.declared.entries.Entry.{Entry}
-use Rattle.journal_core.specs.declared.outcome.Effect.{Effect}
-use Rattle.extent_list.specs.Listing.{too_many_extents}
-use Rattle.extent_list.specs.media_map.specs.Places.{IsRun, run_of}
+use Rattle.extent_list.specs.{ExtentLists.has_extent_of, ExtentLists.real_tags, HostLists.Lists, HostLists.extent_total, Listing.too_many_extents, dcd_codes.specs.Rules.◌breaks◌}
+use Rattle.extent_list.specs.{dcd_codes.specs.declared.rules.Rule.Rule, media_map.specs.Places.IsRun, media_map.specs.Places.run_of, media_map.specs.region_config.proofs.Faultless.granules_within}
 use Rattle.extent_list.specs.media_map.specs.region_config.specs.Configurations.{Configuration}
 use Rattle.extent_list.specs.media_map.specs.region_config.specs.Granules.{first_granule, granule_size, granule_total, hosts_of, region_of, region_spec}
-use Rattle.extent_list.specs.media_map.specs.region_config.specs.Soundness.{IsSound}
-use Rattle.extent_list.specs.media_map.specs.region_config.specs.declared.region_spec.RegionSpec.{RegionSpec}
-use Rattle.extent_list.specs.media_map.specs.region_config.proofs.Faultless.{granules_within}
+use Rattle.extent_list.specs.media_map.specs.region_config.specs.{Soundness.IsSound, declared.region_spec.RegionSpec.RegionSpec}
 use Rattle.selection.proofs.Agreeing.{Agree, contiguous_runs_agree, free_blocks_agree, free_runs_agree, longest_free_agree, prescribed_rule_agree}
-use Rattle.selection.specs.Selections.{prescribed_rule, too_few_free}
-use Rattle.tag_refs.specs.Tables.{entry_with, has_entry, passes, some_passes}
-use Rattle.tag_refs.specs.declared.entries.TagEntry.{TagEntry}
-use Rattle.device_state.specs.device_rules.specs.TagTable.{IsEntry}
+use Rattle.selection.specs.{Selections.prescribed_rule, Selections.too_few_free, granule_map.specs.StateLists.is_free_at}
+use Rattle.device_commands.specs.{Drafts.Drafts, declared.draft.Draft.Draft}
+use Rattle.device_state.specs.{Entered.runs_found, Entered.runs_in, StateAfter.IsStateAfter, StateAfter.part_of, declared.state.State.State}
+use Rattle.device_state.specs.device_rules.proofs.{Homes.first_same, Homes.made_is_run, Homes.region_of_same, Homes.supported_whole, ListSteps.each-change, ListSteps.each-map, Overlaps.not_broken}
+use Rattle.device_state.specs.device_rules.{proofs.TagSteps.same_tag-is, specs.Hosts.accepted_of, specs.Hosts.block_of, specs.Hosts.offers_of, specs.Legal.Legal}
+use Rattle.device_state.specs.device_rules.specs.{Outcomes.log_full, Outcomes.records_of_extents, Pictures.picture_of, Standing.IsMade, Standing.Stands, TagTable.IsEntry}
+use Rattle.device_state.specs.device_rules.specs.{Tags.last_offer, Tags.open_tags, Tags.tag_runs, Tags.is_live as is_tag_live, Views.lists_in, Views.extents_in, Views.view_after, Views.view_of}
+use Rattle.journal_core.specs.{Entries.effects, declared.entries.Entry.Entry, declared.outcome.Effect.Effect}
+use Rattle.tag_refs.specs.{Tables.entry_with, Tables.has_entry, Tables.passes, Tables.some_passes, declared.entries.TagEntry.TagEntry}
 use Rattle.device_state.specs.device_rules.specs.Adding.{add_outcome, add_rule, area_of, by_length_rule, chosen, extents_of, region_free_blocks, is_free_now, is_open_in, region_longest_free, offered, per_block, present, with_tag, too_many_tags}
-use Rattle.device_state.specs.device_rules.specs.Hosts.{accepted_of, block_of, offers_of}
-use Rattle.device_state.specs.device_rules.specs.Legal.{Legal}
-use Rattle.device_state.specs.device_rules.specs.Outcomes.{log_full, records_of_extents}
-use Rattle.device_state.specs.device_rules.specs.Tags.{last_offer, open_tags, tag_runs, is_live as is_tag_live}
-use Rattle.device_state.specs.device_rules.specs.Pictures.{picture_of}
-use Rattle.device_state.specs.device_rules.specs.Standing.{IsMade, Stands}
-use Rattle.device_state.specs.device_rules.proofs.Homes.{first_same, made_is_run, region_of_same, supported_whole}
-use Rattle.device_state.specs.device_rules.proofs.ListSteps.{each-change, each-map}
-use Rattle.device_state.specs.device_rules.proofs.Overlaps.{not_broken}
 use Rattle.release_core.proofs.Members.{neither}
-use Rattle.device_state.specs.device_rules.proofs.TagSteps.{same_tag-is}
-use Rattle.manager_commands.proofs.CountedTags.{HasOne, no_more, own_first}
-use Rattle.manager_commands.proofs.FreeGranules.{free_at}
-use Rattle.manager_commands.proofs.TagReadings.{tags_live, tags_open, tags_open_in}
+use Rattle.manager_commands.proofs.{CountedTags.HasOne, CountedTags.no_more, CountedTags.own_first, FreeGranules.free_at}
 use Rattle.manager_commands.proofs.Reached.{hosts_kept, region_kept, regions_kept, stands_by, total_kept}
+use Rattle.manager_commands.proofs.TagReadings.{tags_live, tags_open, tags_open_in}
 use Rattle.manager_commands.specs.InitiateDynamicCapacityAdd.{DraftOffers, chosen_rule, is_used_tag, is_with_hosts, lists_have, target_rule, offered_now, room_rule, tag_rule}
-use Rattle.device_state.specs.Entered.{runs_found, runs_in}
-use Rattle.device_state.specs.declared.state.State.{State}
 
 -- ---- searches
 

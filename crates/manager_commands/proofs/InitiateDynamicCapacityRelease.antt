@@ -1,50 +1,24 @@
 -- Extents that may leave their host can be taken, and what is left then.
 use Rattle.std.proofs.Common.{◌≡◌, ℕ, zero, suc, ◌<◌, ◌≤◌, Bool, true, false, not, ◌&&◌, ◌==◌, List, [], ◌∷◌, length, map, Option, None, Result, Ok, Err, refl, sym, ap, subst, ◌∙◌, arith, leb, ltb}
+use Rattle.std.{proofs.lemmas.Bool.leb-false, proofs.lemmas.List.Sums.count_by-le-length, proofs.lemmas.List.Sums.length-filter, specs.List.AllByRecursion}
 use Rattle.std.specs.Prelude.{All, IfOk, filter, if◌then◌else◌, nat_le}
-use Rattle.std.specs.List.{AllByRecursion}
-use Rattle.std.proofs.lemmas.Bool.{leb-false}
-use Rattle.std.proofs.lemmas.List.Sums.{count_by-le-length, length-filter}
-use Rattle.event_records.specs.dcd_base.specs.Words.{◌or◌, same_tag}
-use Rattle.event_records.specs.dcd_base.specs.declared.capacity.Extent.{Extent}
-use Rattle.event_records.specs.dcd_base.specs.declared.capacity.Tag.{Tag}
-use Rattle.event_records.specs.dcd_base.specs.declared.ids.HostId.{HostId}
-use Rattle.event_records.specs.dcd_base.specs.declared.steps.LogId.{LogId}
-use Rattle.extent_list.specs.dcd_codes.specs.Rules.{◌breaks◌, ByRow, each_in}
-use Rattle.extent_list.specs.dcd_codes.specs.declared.refusals.Refusal.{Refusal}
-use Rattle.extent_list.specs.dcd_codes.specs.declared.rules.Rule.{Rule}
-use Rattle.extent_list.specs.ExtentLists.{count_in, marked}
-use Rattle.extent_list.specs.HostLists.{Lists}
-use Rattle.journal_core.specs.declared.outcome.Effect.{Effect}
-use Rattle.extent_list.specs.Listing.{incomplete, too_many_extents}
-use Rattle.extent_list.specs.media_map.proofs.RunLemmas.{granular_from}
-use Rattle.extent_list.specs.media_map.specs.Places.{is_granular, region_at}
-use Rattle.extent_list.specs.media_map.specs.region_config.specs.Configurations.{Configuration}
-use Rattle.extent_list.specs.media_map.specs.region_config.specs.Granules.{with_blocks}
-use Rattle.extent_list.specs.media_map.specs.region_config.specs.Soundness.{IsSound}
-use Rattle.release_core.specs.Leaving.{count_after}
-use Rattle.release_core.specs.Removals.{by_tag_rule, prescribed_removal_rule, extents_of_tag}
-use Rattle.device_state.specs.device_rules.specs.Hosts.{block_of}
-use Rattle.device_state.specs.device_rules.specs.Outcomes.{log_full, records_of_extents}
-use Rattle.device_state.specs.device_rules.specs.ReleaseOutcomes.{is_cleaning, is_forced, policy_in, remove_rule, removals, removed}
-use Rattle.device_state.specs.device_rules.specs.Views.{View, view_after, view_of, lists_in}
-use Rattle.device_state.specs.device_rules.specs.Pictures.{Picture, picture_of}
-use Rattle.device_state.specs.device_rules.specs.Standing.{IsMade, Stands}
-use Rattle.device_state.specs.device_rules.proofs.Going.{some_going}
-use Rattle.device_state.specs.device_rules.proofs.Homes.{made_granular}
-use Rattle.device_state.specs.device_rules.proofs.LeftStanding.{going_of, going_rule}
-use Rattle.device_state.specs.device_rules.proofs.ListSteps.{each-change, each-map}
-use Rattle.device_state.specs.device_rules.proofs.OneLeave.{loose, whole_blocks}
-use Rattle.device_state.specs.device_rules.proofs.Overlaps.{not_broken}
-use Rattle.release_core.proofs.Members.{neither}
+use Rattle.event_records.specs.dcd_base.specs.{Words.◌or◌, Words.same_tag, declared.capacity.Extent.Extent, declared.capacity.Tag.Tag, declared.ids.HostId.HostId, declared.steps.LogId.LogId}
 use Rattle.event_records.specs.declared.events.EventKind.{EventKind}
-use Rattle.journal_core.specs.Entries.{effects}
-use Rattle.journal_core.specs.declared.entries.Entry.{Entry}
+use Rattle.extent_list.specs.{ExtentLists.count_in, ExtentLists.marked, HostLists.Lists, Listing.incomplete, Listing.too_many_extents}
+use Rattle.extent_list.specs.dcd_codes.specs.{Rules.◌breaks◌, Rules.ByRow, Rules.each_in, declared.refusals.Refusal.Refusal, declared.rules.Rule.Rule}
+use Rattle.extent_list.specs.media_map.{proofs.RunLemmas.granular_from, specs.Places.is_granular, specs.Places.region_at, specs.region_config.specs.Configurations.Configuration}
+use Rattle.extent_list.specs.media_map.specs.region_config.specs.{Granules.with_blocks, Soundness.IsSound}
+use Rattle.journal_core.specs.{declared.outcome.Effect.Effect, Entries.effects, declared.entries.Entry.Entry}
+use Rattle.release_core.{specs.Leaving.count_after, specs.Removals.by_tag_rule, specs.Removals.prescribed_removal_rule, specs.Removals.extents_of_tag, proofs.Members.neither}
+use Rattle.device_state.specs.{StateAfter.IsStateAfter, StateAfter.IsReached, StateAfter.part_of, declared.state.State.State, device_rules.proofs.Going.some_going}
+use Rattle.device_state.specs.device_rules.proofs.{Homes.made_granular, LeftStanding.going_of, LeftStanding.going_rule, ListSteps.each-change, ListSteps.each-map}
+use Rattle.device_state.specs.device_rules.{proofs.OneLeave.loose, proofs.OneLeave.whole_blocks, proofs.Overlaps.not_broken, specs.Hosts.block_of}
+use Rattle.device_state.specs.device_rules.specs.{Outcomes.log_full, Outcomes.records_of_extents, Pictures.Picture, Pictures.picture_of}
+use Rattle.device_state.specs.device_rules.specs.ReleaseOutcomes.{is_cleaning, is_forced, policy_in, remove_rule, removals, removed}
+use Rattle.device_state.specs.device_rules.specs.{Standing.IsMade, Standing.Stands, Views.View, Views.view_after, Views.view_of, Views.lists_in}
 use Rattle.manager_commands.proofs.Reached.{hosts_kept, stands_by}
-use Rattle.device_state.specs.StateAfter.{IsStateAfter, IsReached, part_of}
 use Rattle.manager_commands.specs.InitiateDynamicCapacityRelease.{AreGranular, IsAskedFor, IsTakenByForce, flags_rule, meant_rule, removal_outcome}
-use Rattle.device_state.specs.declared.state.State.{State}
-use Rattle.device_commands.specs.declared.draft.Draft.{Draft}
-use Rattle.device_commands.specs.Drafts.{Drafts}
+use Rattle.device_commands.specs.{declared.draft.Draft.Draft, Drafts.Drafts}
 
 each_at : (P : Extent → Type 0) (xs : List Extent) → AllByRecursion P xs → All P xs
 each_at P [] each i d known = absurd (omega (arith, known))

@@ -1,9 +1,7 @@
 -- Pages of lists.
 use Rattle.std.proofs.Common.{◌≡◌, ℕ, zero, suc, ◌+◌, ◌≤◌, List, [], ◌∷◌, ◌++◌, take, drop, map, length, Some, slice_get, refl, sym, ap, ◌∙◌, arith}
+use Rattle.std.{proofs.lemmas.List.drop-map, proofs.lemmas.List.take-map, proofs.lemmas.Option.none-some, proofs.lemmas.Option.same_Some, specs.List.enumerate_from, specs.List.range_with_len}
 use Rattle.std.specs.Prelude.{flat_map, option_map}
-use Rattle.std.specs.List.{enumerate_from, range_with_len}
-use Rattle.std.proofs.lemmas.List.{drop-map, take-map}
-use Rattle.std.proofs.lemmas.Option.{none-some, same_Some}
 use Rattle.device_state.specs.device_rules.specs.Settings.{page}
 
 slice_get-drop : {X : Type 0} (first i : ℕ) (xs : List X) → slice_get xs (first + i) ≡ slice_get (drop first xs) i

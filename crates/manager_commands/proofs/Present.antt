@@ -1,12 +1,8 @@
 -- The present configuration is the first one with its present blocks.
 use Rattle.std.proofs.Common.{◌≡◌, ℕ, ◌<◌, length, sym, ap, subst, ◌∙◌, arith}
-use Rattle.std.specs.List.{enumerate_from}
-use Rattle.std.proofs.lemmas.List.{ext_get_or, length-map}
-use Rattle.std.proofs.lemmas.List.FromFn.{length-enumerate_from}
-use Rattle.extent_list.specs.media_map.specs.region_config.specs.Configurations.{Configuration}
-use Rattle.extent_list.specs.media_map.specs.region_config.specs.declared.region_spec.RegionSpec.{RegionSpec}
-use Rattle.extent_list.specs.media_map.specs.region_config.specs.Granules.{no_region, region_spec, with_blocks}
-use Rattle.extent_list.specs.media_map.specs.region_config.proofs.PresentBlocks.{region_spec-with_blocks}
+use Rattle.std.{specs.List.enumerate_from, proofs.lemmas.List.ext_get_or, proofs.lemmas.List.length-map, proofs.lemmas.List.FromFn.length-enumerate_from}
+use Rattle.extent_list.specs.media_map.specs.region_config.{proofs.PresentBlocks.region_spec-with_blocks, specs.Configurations.Configuration}
+use Rattle.extent_list.specs.media_map.specs.region_config.specs.{Granules.no_region, Granules.region_spec, Granules.with_blocks, declared.region_spec.RegionSpec.RegionSpec}
 
 long : (c : Configuration) (b : ℕ → ℕ) → length (with_blocks c b).regions ≡ length c.regions
 long c b = length-map (enumerate_from 0 c.regions) (λ (spec : ℕ × RegionSpec). record spec.1 { block = b spec.0 }) ∙ length-enumerate_from 0 c.regions

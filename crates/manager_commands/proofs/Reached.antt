@@ -1,32 +1,16 @@
 -- What the state says of the device that it is a state of.
 use Rattle.std.proofs.Common.{◌≡◌, ℕ, ◌+◌, ◌<◌, ◌≤◌, List, length, sym, ap, subst, ◌∙◌, arith}
+use Rattle.std.{proofs.lemmas.List.length-map, proofs.lemmas.List.length-append, proofs.lemmas.List.Concat.length-flat_map, proofs.lemmas.List.FromFn.length-enumerate_from, specs.List.enumerate_from}
 use Rattle.std.specs.Prelude.{◌++◌, flat_map}
-use Rattle.std.specs.List.{enumerate_from}
-use Rattle.std.proofs.lemmas.List.{length-map, length-append}
-use Rattle.std.proofs.lemmas.List.Concat.{length-flat_map}
-use Rattle.std.proofs.lemmas.List.FromFn.{length-enumerate_from}
-use Rattle.event_records.specs.dcd_base.specs.declared.ids.HostId.{HostId}
-use Rattle.extent_list.specs.media_map.specs.region_config.specs.Configurations.{Configuration}
-use Rattle.extent_list.specs.media_map.specs.region_config.specs.Granules.{first_granule, granule_total, region_spec, with_blocks}
-use Rattle.extent_list.specs.media_map.specs.region_config.specs.Soundness.{IsSound}
-use Rattle.extent_list.specs.media_map.specs.region_config.proofs.PresentBlocks.{first_granule-with_blocks, region_spec-with_blocks}
-use Rattle.journal_core.specs.Entries.{effects}
-use Rattle.journal_core.specs.declared.entries.Entry.{Entry}
-use Rattle.journal_core.specs.declared.outcome.Effect.{Effect}
-use Rattle.event_records.specs.dcd_base.specs.declared.capacity.Extent.{Extent}
-use Rattle.extent_list.specs.ExtentLists.{count_in}
+use Rattle.event_records.specs.dcd_base.specs.declared.{ids.HostId.HostId, capacity.Extent.Extent}
+use Rattle.extent_list.specs.{ExtentLists.count_in, HostLists.Lists, HostLists.extent_total}
+use Rattle.extent_list.specs.media_map.specs.region_config.{proofs.PresentBlocks.first_granule-with_blocks, proofs.PresentBlocks.region_spec-with_blocks, specs.Configurations.Configuration}
+use Rattle.extent_list.specs.media_map.specs.region_config.specs.{Granules.first_granule, Granules.granule_total, Granules.region_spec, Granules.with_blocks, Soundness.IsSound}
+use Rattle.journal_core.specs.{Entries.effects, declared.entries.Entry.Entry, declared.outcome.Effect.Effect}
 use Rattle.tag_refs.specs.declared.entries.TagEntry.{TagEntry}
-use Rattle.extent_list.specs.HostLists.{Lists, extent_total}
-use Rattle.device_state.specs.device_rules.specs.Hosts.{accepted_of, block_of, offers_of}
-use Rattle.device_state.specs.device_rules.specs.Legal.{Legal}
-use Rattle.device_state.specs.device_rules.specs.Views.{view_of}
-use Rattle.device_state.specs.device_rules.specs.Pictures.{picture_of}
-use Rattle.device_state.specs.device_rules.specs.Standing.{Stands}
-use Rattle.device_state.specs.device_rules.proofs.LegalSound.{legal_is_sound}
-use Rattle.manager_commands.proofs.CountedTags.{few_tags}
-use Rattle.device_state.specs.StateAfter.{IsStateAfter, IsReached, part_of}
-use Rattle.manager_commands.specs.SetDcRegionConfiguration.{LogsAreOf}
-use Rattle.device_state.specs.declared.state.State.{State}
+use Rattle.device_state.specs.{StateAfter.IsStateAfter, StateAfter.IsReached, StateAfter.part_of, declared.state.State.State, device_rules.proofs.LegalSound.legal_is_sound}
+use Rattle.device_state.specs.device_rules.specs.{Hosts.accepted_of, Hosts.block_of, Hosts.offers_of, Legal.Legal, Pictures.picture_of, Standing.Stands, Views.view_of}
+use Rattle.manager_commands.{proofs.CountedTags.few_tags, specs.SetDcRegionConfiguration.LogsAreOf}
 
 -- there are as many regions with other blocks
 pub blocks_long : (c : Configuration) (b : ℕ → ℕ) → length (with_blocks c b).regions ≡ length c.regions

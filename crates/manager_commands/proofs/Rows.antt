@@ -2,9 +2,7 @@
 use Rattle.std.proofs.Common.{◌≡◌, ℕ, ◌<◌, ◌≤◌, Bool, true, false, List, [], ◌∷◌, ◌++◌, Option, Some, None, Result, Ok, Err, inl, inr, refl, ap, ◌∙◌, arith, ltb, leb}
 use Rattle.std.proofs.lemmas.Bool.{cases_Bool, leb-true, ltb-true}
 use Rattle.event_records.specs.dcd_base.specs.Words.{◌or◌}
-use Rattle.extent_list.specs.dcd_codes.proofs.RuleSteps.{first_by-append}
-use Rattle.extent_list.specs.dcd_codes.specs.Rules.{◌breaks◌, ByRow, each_in, first_by}
-use Rattle.extent_list.specs.dcd_codes.specs.declared.refusals.Refusal.{Refusal}
+use Rattle.extent_list.specs.dcd_codes.{proofs.RuleSteps.first_by-append, specs.Rules.◌breaks◌, specs.Rules.ByRow, specs.Rules.each_in, specs.Rules.first_by, specs.declared.refusals.Refusal.Refusal}
 use Rattle.extent_list.specs.dcd_codes.specs.declared.rules.Rule.{Rule}
 
 -- tests of numbers that fail

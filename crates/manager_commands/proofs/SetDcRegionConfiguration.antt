@@ -1,39 +1,18 @@
 -- The row of a new block size, by what is kept of the region.
 use Rattle.std.proofs.Common.{◌≡◌, ℕ, zero, suc, ◌+◌, ◌<◌, ◌≤◌, Bool, not, ◌==◌, List, [], ◌∷◌, map, length, Option, Some, None, refl, sym, ap, subst, ◌∙◌, arith, ltb}
-use Rattle.std.specs.Prelude.{All, count_by}
-use Rattle.std.specs.List.{range_with_len}
-use Rattle.std.proofs.lemmas.Bool.{le-leb}
-use Rattle.std.proofs.lemmas.List.Sums.{length-filter}
-use Rattle.event_records.specs.dcd_base.specs.Words.{flag_of, ◌or◌}
-use Rattle.event_records.specs.dcd_base.specs.declared.ids.HostId.{HostId}
-use Rattle.extent_list.specs.dcd_codes.specs.Rules.{◌breaks◌, each_in}
-use Rattle.extent_list.specs.dcd_codes.specs.declared.rules.Rule.{Rule}
-use Rattle.selection.specs.granule_map.specs.StateLists.{is_free_at}
-use Rattle.journal_core.specs.Entries.{effects}
-use Rattle.journal_core.specs.declared.entries.Entry.{Entry}
-use Rattle.extent_list.specs.media_map.specs.region_config.specs.Configurations.{Configuration}
+use Rattle.std.{specs.Prelude.All, specs.Prelude.count_by, specs.List.range_with_len, proofs.lemmas.Bool.le-leb, proofs.lemmas.List.Sums.length-filter}
+use Rattle.event_records.specs.dcd_base.specs.{Words.flag_of, Words.◌or◌, declared.ids.HostId.HostId}
+use Rattle.extent_list.specs.{dcd_codes.specs.Rules.◌breaks◌, dcd_codes.specs.Rules.each_in, dcd_codes.specs.declared.rules.Rule.Rule, media_map.specs.region_config.proofs.Faultless.granules_within}
+use Rattle.extent_list.specs.media_map.specs.region_config.{proofs.PresentBlocks.granules_in-with_blocks, specs.Configurations.Configuration}
 use Rattle.extent_list.specs.media_map.specs.region_config.specs.Granules.{first_granule, granule_total, region_granules, hosts_of, is_supported, region_spec, sizes_in}
-use Rattle.extent_list.specs.media_map.specs.region_config.specs.Soundness.{IsSound}
-use Rattle.extent_list.specs.media_map.specs.region_config.specs.declared.region_spec.RegionSpec.{RegionSpec}
-use Rattle.extent_list.specs.media_map.specs.region_config.proofs.Faultless.{granules_within}
-use Rattle.extent_list.specs.media_map.specs.region_config.proofs.PresentBlocks.{granules_in-with_blocks}
-use Rattle.selection.proofs.Agreeing.{Agree}
-use Rattle.device_state.specs.device_rules.specs.Adding.{is_free_now}
-use Rattle.device_state.specs.device_rules.specs.Hosts.{block_of}
-use Rattle.device_state.specs.device_rules.specs.Outcomes.{log_full}
-use Rattle.device_state.specs.device_rules.specs.Settings.{in_use, no_such_region, set_outcome, set_rule}
-use Rattle.device_state.specs.device_rules.specs.Tags.{is_free, status}
-use Rattle.device_state.specs.device_rules.specs.Views.{View}
-use Rattle.manager_commands.proofs.FreeGranules.{filter_agree, free_at}
-use Rattle.manager_commands.proofs.Reached.{first_kept, hosts_kept, region_kept}
-use Rattle.manager_commands.proofs.Rows.{kept_rule, not_up_to}
+use Rattle.extent_list.specs.media_map.specs.region_config.specs.{Soundness.IsSound, declared.region_spec.RegionSpec.RegionSpec}
+use Rattle.selection.{specs.granule_map.specs.StateLists.is_free_at, proofs.Agreeing.Agree}
+use Rattle.journal_core.specs.{Entries.effects, declared.entries.Entry.Entry, declared.outcome.Effect.Effect}
+use Rattle.device_state.specs.{StateAfter.IsStateAfter, declared.state.State.State, device_rules.specs.Adding.is_free_now, device_rules.specs.Hosts.block_of, device_rules.specs.Outcomes.log_full}
+use Rattle.device_state.specs.device_rules.specs.{Settings.in_use, Settings.no_such_region, Settings.set_outcome, Settings.set_rule, Tags.is_free, Tags.status, Views.View}
+use Rattle.manager_commands.proofs.{FreeGranules.filter_agree, FreeGranules.free_at, Reached.first_kept, Reached.hosts_kept, Reached.region_kept, Rows.kept_rule, Rows.not_up_to}
 use Rattle.manager_commands.specs.SetDcRegionConfiguration.{region_record, size_rule, told_to_all, used_in}
-use Rattle.device_commands.specs.Drafts.{Informs, as_records}
-use Rattle.device_commands.specs.declared.draft.Draft.{Draft}
-use Rattle.device_commands.specs.declared.log_records.LogRecords.{LogRecords}
-use Rattle.journal_core.specs.declared.outcome.Effect.{Effect}
-use Rattle.device_state.specs.StateAfter.{IsStateAfter}
-use Rattle.device_state.specs.declared.state.State.{State}
+use Rattle.device_commands.specs.{Drafts.Informs, Drafts.as_records, declared.draft.Draft.Draft, declared.log_records.LogRecords.LogRecords}
 
 -- another block leaves the sizes that are supported
 other_block : (spec : RegionSpec) (b size : ℕ) (sanitize : Bool) (used : ℕ) → size_rule (record spec { block = b }) size sanitize used ≡ size_rule spec size sanitize used

@@ -1,27 +1,14 @@
 -- What the table of the open tags says of them.
 use Rattle.std.proofs.Common.{◌≡◌, ℕ, ◌&&◌, ◌||◌, not, ◌==◌, List, map, length}
 use Rattle.std.specs.List.{list_any}
-use Rattle.event_records.specs.dcd_base.specs.Words.{has_tag, is_zero_tag}
-use Rattle.event_records.specs.dcd_base.specs.declared.capacity.Tag.{Tag}
-use Rattle.extent_list.specs.ExtentLists.{has_extent_of}
-use Rattle.journal_core.specs.Entries.{effects}
-use Rattle.journal_core.specs.declared.entries.Entry.{Entry}
-use Rattle.extent_list.specs.media_map.specs.region_config.specs.Configurations.{Configuration}
-use Rattle.extent_list.specs.media_map.specs.region_config.specs.Granules.{hosts_of}
+use Rattle.event_records.specs.dcd_base.specs.{Words.has_tag, Words.is_zero_tag, declared.capacity.Tag.Tag}
+use Rattle.extent_list.specs.{ExtentLists.has_extent_of, media_map.specs.region_config.specs.Configurations.Configuration, media_map.specs.region_config.specs.Granules.hosts_of}
 use Rattle.extent_list.specs.media_map.specs.region_config.specs.Soundness.{IsSound}
-use Rattle.tag_refs.specs.Tables.{has_entry, passes, tag_view, entry_referenced as is_entry_referenced}
-use Rattle.tag_refs.specs.declared.entries.TagEntry.{TagEntry}
-use Rattle.device_state.specs.device_rules.specs.Adding.{is_open_in}
-use Rattle.device_state.specs.device_rules.specs.Hosts.{accepted_of, offers_of}
-use Rattle.device_state.specs.device_rules.specs.Legal.{Legal}
-use Rattle.device_state.specs.device_rules.specs.TagCommands.{tag_seen}
-use Rattle.device_state.specs.device_rules.specs.Tags.{is_referenced, open_tags, is_live as is_tag_live}
-use Rattle.device_state.specs.device_rules.specs.TagTable.{IsTable}
-use Rattle.device_state.specs.device_rules.proofs.AddSteps.{table_in_use, table_open_in}
-use Rattle.device_state.specs.device_rules.proofs.TagEntries.{table_live}
-use Rattle.device_state.specs.device_rules.proofs.Listing.{table_length, table_seen}
-use Rattle.device_state.specs.device_rules.proofs.ReferenceSteps.{table_referenced}
-use Rattle.device_state.specs.device_rules.proofs.ReferencedTags.{referenced_open}
+use Rattle.journal_core.specs.{Entries.effects, declared.entries.Entry.Entry}
+use Rattle.tag_refs.specs.{Tables.has_entry, Tables.passes, Tables.tag_view, Tables.entry_referenced as is_entry_referenced, declared.entries.TagEntry.TagEntry}
+use Rattle.device_state.specs.device_rules.proofs.{AddSteps.table_in_use, AddSteps.table_open_in, Listing.table_length, Listing.table_seen, ReferenceSteps.table_referenced}
+use Rattle.device_state.specs.device_rules.{proofs.ReferencedTags.referenced_open, proofs.TagEntries.table_live, specs.Adding.is_open_in, specs.Hosts.accepted_of, specs.Hosts.offers_of}
+use Rattle.device_state.specs.device_rules.specs.{Legal.Legal, TagCommands.tag_seen, TagTable.IsTable, Tags.is_referenced, Tags.open_tags, Tags.is_live as is_tag_live}
 
 -- there are as many open tags as entries
 pub tags_length : (c : Configuration) (before : List Entry) (entries : List TagEntry) → IsSound c → Legal c before → IsTable c (effects before) entries →

@@ -1,19 +1,11 @@
 -- Extents with a tag, and runs of granules as such extents.
 use Rattle.std.proofs.Common.{◌≡◌, ◌+◌, ◌<◌, ℕ, Bool, List, [], ◌∷◌, ◌++◌, get_or, length, map, take, arith, ap, sym, ◌∙◌}
-use Rattle.std.specs.Prelude.{if◌then◌else◌}
-use Rattle.std.specs.List.{enumerate_from}
-use Rattle.std.proofs.lemmas.List.{length-map, length-take-le, map-append, take_more}
-use Rattle.std.proofs.lemmas.List.FromFn.{length-enumerate_from}
-use Rattle.event_records.specs.dcd_base.specs.Words.{zero_tag}
-use Rattle.event_records.specs.dcd_base.specs.declared.capacity.Extent.{Extent}
-use Rattle.event_records.specs.dcd_base.specs.declared.capacity.Tag.{Tag}
-use Rattle.event_records.specs.dcd_base.specs.declared.media.Run.{Run}
-use Rattle.device_state.specs.device_rules.specs.Adding.{extents_of, with_tag}
-use Rattle.device_state.specs.declared.state.State.{State}
+use Rattle.std.proofs.lemmas.List.{length-map, length-take-le, map-append, take_more, FromFn.length-enumerate_from}
+use Rattle.std.specs.{List.enumerate_from, Prelude.if◌then◌else◌}
+use Rattle.event_records.specs.dcd_base.specs.{Words.zero_tag, declared.capacity.Extent.Extent, declared.capacity.Tag.Tag, declared.media.Run.Run}
+use Rattle.device_state.specs.{device_rules.specs.Adding.extents_of, device_rules.specs.Adding.with_tag, declared.state.State.State}
 use Rattle.extent_list.specs.media_map.specs.Places.{extent_of}
-use Rattle.manager_commands.proofs.ListPages.{numbered_more}
-use Rattle.manager_commands.specs.InitiateDynamicCapacityAdd.{tagged_runs}
-use Rattle.manager_commands.specs.declared.choosing.Asked.{Asked}
+use Rattle.manager_commands.{proofs.ListPages.numbered_more, specs.InitiateDynamicCapacityAdd.tagged_runs, specs.declared.choosing.Asked.Asked}
 
 -- with the tag there are as many
 pub length-with_tag : (shareable : Bool) (tag : Tag) (xs : List Extent) → length (with_tag shareable tag xs) ≡ length xs

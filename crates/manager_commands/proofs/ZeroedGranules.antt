@@ -1,28 +1,15 @@
 -- What a turn of the sanitizer zeroes is what a scrub zeroes.
 use Rattle.std.proofs.Common.{◌≡◌, ℕ, zero, suc, ◌+◌, ◌<◌, min, cond, List, [], ◌∷◌, length, map, get_or, take, drop, refl, ap, sym, ◌∙◌, arith}
-use Rattle.std.specs.Prelude.{count_by}
-use Rattle.std.specs.List.{filter, range_with_len}
-use Rattle.std.proofs.Math.Seq.{drop-length}
-use Rattle.std.proofs.lemmas.List.{drop_more, get_or_default, take_min}
-use Rattle.std.proofs.lemmas.List.Sums.{length-filter, sum_by-cons}
+use Rattle.std.proofs.{Math.Seq.drop-length, lemmas.List.drop_more, lemmas.List.get_or_default, lemmas.List.take_min, lemmas.List.Sums.length-filter, lemmas.List.Sums.sum_by-cons}
+use Rattle.std.specs.{List.filter, List.range_with_len, Prelude.count_by}
 use Rattle.event_records.specs.dcd_base.specs.declared.media.Run.{Run}
-use Rattle.extent_list.specs.media_map.specs.region_config.specs.Configurations.{Configuration}
-use Rattle.extent_list.specs.media_map.specs.region_config.specs.Granules.{granule_total, same_region}
-use Rattle.device_state.specs.device_rules.specs.GranuleCells.{IsCell, status_of}
-use Rattle.selection.specs.granule_map.specs.Choices.{joined}
-use Rattle.selection.specs.granule_map.specs.StateLists.{count_of, is_dirty_at, is_dirty_state, same_state}
+use Rattle.extent_list.specs.media_map.specs.region_config.specs.{Configurations.Configuration, Granules.granule_total, Granules.same_region}
+use Rattle.device_state.specs.{StateAfter.IsStateAfter, declared.state.State.State, device_rules.specs.Answers.scrubbed as rules_scrubbed, device_rules.specs.Answers.zeroes}
+use Rattle.device_state.specs.device_rules.specs.{GranuleCells.IsCell, GranuleCells.status_of, Tags.is_dirty, Tags.status}
+use Rattle.selection.specs.granule_map.specs.{Choices.joined, StateLists.count_of, StateLists.is_dirty_at, StateLists.is_dirty_state, StateLists.same_state, Tables.CellTable, Tables.cell_at}
 use Rattle.selection.specs.granule_map.specs.declared.states.GranuleState.{GranuleState}
-use Rattle.selection.specs.granule_map.specs.Tables.{CellTable, cell_at}
-use Rattle.device_state.specs.StateAfter.{IsStateAfter}
-use Rattle.journal_core.specs.Entries.{effects}
-use Rattle.journal_core.specs.declared.acts.Reply.{Reply}
-use Rattle.journal_core.specs.declared.entries.Entry.{Entry}
-use Rattle.journal_core.specs.declared.outcome.Effect.{Effect}
-use Rattle.device_state.specs.device_rules.specs.Answers.{scrubbed as rules_scrubbed, zeroes}
-use Rattle.device_state.specs.device_rules.specs.Tags.{is_dirty, status}
-use Rattle.sanitizer.specs.Turns.{granules_of_runs, run_of_pair, scrub_runs, lowest_dirty}
-use Rattle.sanitizer.proofs.Scrubbed.{scrub_runs_agree, scrubbed_agree}
-use Rattle.device_state.specs.declared.state.State.{State}
+use Rattle.journal_core.specs.{Entries.effects, declared.acts.Reply.Reply, declared.entries.Entry.Entry, declared.outcome.Effect.Effect}
+use Rattle.sanitizer.{specs.Turns.granules_of_runs, specs.Turns.run_of_pair, specs.Turns.scrub_runs, specs.Turns.lowest_dirty, proofs.Scrubbed.scrub_runs_agree, proofs.Scrubbed.scrubbed_agree}
 use Rattle.manager_commands.specs.Scrub.{IsZeroed}
 
 -- ---- which granules are dirty

@@ -1,11 +1,7 @@
 -- What is replied of the regions of a host, 5601h.
 use Rattle.std.specs.Prelude.{◌≡◌, ℕ, List}
-use Rattle.extent_list.specs.media_map.specs.region_config.specs.Configurations.{Configuration}
-use Rattle.extent_list.specs.media_map.specs.region_config.specs.Granules.{with_blocks}
-use Rattle.device_state.specs.device_rules.specs.Settings.{regions_reply}
-use Rattle.device_state.specs.device_rules.specs.Views.{View, lists_in}
-use Rattle.device_state.specs.StateAfter.{part_of}
-use Rattle.device_state.specs.declared.state.State.{State}
+use Rattle.extent_list.specs.media_map.specs.region_config.specs.{Configurations.Configuration, Granules.with_blocks}
+use Rattle.device_state.specs.{device_rules.specs.Settings.regions_reply, device_rules.specs.Views.View, device_rules.specs.Views.lists_in, StateAfter.part_of, declared.state.State.State}
 
 -- The payload is the reply, for each configuration and view that the present blocks and the lists of the host show.
 abbrev pub IsRegionsReply : State → ℕ → ℕ → ℕ → List ℕ → Type 0

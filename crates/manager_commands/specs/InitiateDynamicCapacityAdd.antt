@@ -1,37 +1,21 @@
 -- What an offer breaks, what it has, and what it comes to, by what is kept, 5604h.
 use Rattle.std.specs.Prelude.{◌≡◌, ℕ, ◌+◌, ◌/◌, Bool, ◌&&◌, not, ◌==◌, ◌||◌, nat_le, nat_lt, List, [], ◌∷◌, ◌++◌, Option, if◌then◌else◌, length}
-use Rattle.std.specs.List.{list_any}
-use Rattle.event_records.specs.dcd_base.specs.Words.{◌or◌, is_zero_tag, where_true}
-use Rattle.event_records.specs.dcd_base.specs.declared.capacity.Extent.{Extent}
-use Rattle.event_records.specs.dcd_base.specs.declared.capacity.Tag.{Tag}
-use Rattle.event_records.specs.dcd_base.specs.declared.ids.HostId.{HostId}
-use Rattle.event_records.specs.dcd_base.specs.declared.media.Run.{Run}
-use Rattle.event_records.specs.dcd_base.specs.declared.steps.LogId.{LogId}
-use Rattle.extent_list.specs.dcd_codes.specs.Rules.{◌breaks◌, ByRow}
-use Rattle.extent_list.specs.dcd_codes.specs.declared.rules.Rule.{Rule}
-use Rattle.event_log.specs.Logs.{Log, IsLogOf}
-use Rattle.event_records.specs.declared.events.EventKind.{EventKind}
-use Rattle.extent_list.specs.ExtentLists.{has_extent_of, real_tags}
-use Rattle.selection.specs.granule_map.specs.StateLists.{is_free_at}
-use Rattle.device_state.specs.StateAfter.{part_of}
-use Rattle.device_commands.specs.ListDrafts.{Tells}
-use Rattle.device_commands.specs.declared.draft.Draft.{Draft}
-use Rattle.extent_list.specs.HostLists.{Lists, extent_total, extents_of_lists}
-use Rattle.journal_core.specs.declared.outcome.Effect.{Effect}
-use Rattle.extent_list.specs.Listing.{too_many_extents}
+use Rattle.std.specs.{List.list_any, declared.result.Result.Result}
+use Rattle.event_records.specs.dcd_base.specs.{Words.◌or◌, Words.is_zero_tag, Words.where_true, declared.capacity.Extent.Extent, declared.capacity.Tag.Tag, declared.ids.HostId.HostId}
+use Rattle.event_records.specs.{dcd_base.specs.declared.media.Run.Run, dcd_base.specs.declared.steps.LogId.LogId, declared.events.EventKind.EventKind}
+use Rattle.extent_list.specs.{ExtentLists.has_extent_of, ExtentLists.real_tags, HostLists.Lists, HostLists.extent_total, HostLists.extents_of_lists, Listing.too_many_extents}
+use Rattle.extent_list.specs.dcd_codes.specs.{Rules.◌breaks◌, Rules.ByRow, declared.refusals.Refusal.Refusal, declared.rules.Rule.Rule}
 use Rattle.extent_list.specs.media_map.specs.region_config.specs.Granules.{hosts_of, region_spec}
-use Rattle.selection.specs.Selections.{contiguous_runs, free_runs, prescribed_rule}
-use Rattle.tag_refs.specs.Tables.{entry_referenced, passes}
-use Rattle.tag_refs.specs.declared.entries.TagEntry.{TagEntry}
+use Rattle.event_log.specs.Logs.{Log, IsLogOf}
+use Rattle.selection.specs.{granule_map.specs.StateLists.is_free_at, Selections.contiguous_runs, Selections.free_runs, Selections.prescribed_rule}
+use Rattle.device_state.specs.{Entered.runs_in, StateAfter.part_of, declared.state.State.State}
 use Rattle.device_state.specs.device_rules.specs.Adding.{extents_of, area_of, by_length_rule, chosen, per_block, with_tag, too_many_tags}
 use Rattle.device_state.specs.device_rules.specs.Outcomes.{log_full, records_of_extents}
-use Rattle.device_state.specs.Entered.{runs_in}
-use Rattle.device_state.specs.declared.state.State.{State}
-use Rattle.extent_list.specs.dcd_codes.specs.declared.refusals.Refusal.{Refusal}
-use Rattle.std.specs.declared.result.Result.{Result}
+use Rattle.device_commands.specs.{ListDrafts.Tells, declared.draft.Draft.Draft}
+use Rattle.journal_core.specs.declared.outcome.Effect.{Effect}
+use Rattle.tag_refs.specs.{Tables.entry_referenced, Tables.passes, declared.entries.TagEntry.TagEntry}
 use Rattle.fm_payloads.specs.declared.requests.FmRequest.{FmRequest}
-use Rattle.manager_commands.specs.declared.choosing.Asked.{Asked}
-use Rattle.manager_commands.specs.declared.initiate_dynamic_capacity_add.AddRequest.{AddRequest}
+use Rattle.manager_commands.specs.declared.{choosing.Asked.Asked, initiate_dynamic_capacity_add.AddRequest.AddRequest}
 
 -- the rules of the host, the policy and the region
 abbrev pub target_rule : ℕ → ℕ → ℕ → ℕ → ℕ → Option Rule

@@ -1,32 +1,19 @@
 -- What the manager takes from a host or asks it for, and what is told of it, 5605h.
 use Rattle.std.specs.Prelude.{ℕ, Bool, All, ◌&&◌, not, ◌==◌, nat_lt, nat_le, IsTrue, List, [], ◌∷◌, Option, if◌then◌else◌, length}
-use Rattle.event_records.specs.dcd_base.specs.Words.{◌or◌}
-use Rattle.event_records.specs.dcd_base.specs.declared.capacity.Extent.{Extent}
-use Rattle.event_records.specs.dcd_base.specs.declared.capacity.Tag.{Tag}
-use Rattle.event_records.specs.dcd_base.specs.declared.ids.HostId.{HostId}
-use Rattle.event_records.specs.dcd_base.specs.declared.steps.LogId.{LogId}
-use Rattle.extent_list.specs.dcd_codes.specs.Rules.{◌breaks◌, ByRow}
-use Rattle.extent_list.specs.dcd_codes.specs.declared.rules.Rule.{Rule}
+use Rattle.event_records.specs.dcd_base.specs.{Words.◌or◌, declared.capacity.Extent.Extent, declared.capacity.Tag.Tag, declared.ids.HostId.HostId, declared.steps.LogId.LogId}
 use Rattle.event_records.specs.declared.events.EventKind.{EventKind}
-use Rattle.extent_list.specs.ExtentLists.{count_in, tags_of}
-use Rattle.device_state.specs.StateAfter.{IsStateAfter, part_of}
-use Rattle.device_commands.specs.Drafts.{Drafts}
-use Rattle.device_commands.specs.ListDrafts.{Tells}
-use Rattle.device_commands.specs.declared.draft.Draft.{Draft}
-use Rattle.extent_list.specs.HostLists.{Lists}
-use Rattle.journal_core.specs.declared.outcome.Effect.{Effect}
-use Rattle.extent_list.specs.media_map.specs.Places.{is_granular}
+use Rattle.extent_list.specs.{ExtentLists.count_in, ExtentLists.tags_of, HostLists.Lists, dcd_codes.specs.Rules.◌breaks◌, dcd_codes.specs.Rules.ByRow}
+use Rattle.extent_list.specs.{dcd_codes.specs.declared.refusals.Refusal.Refusal, dcd_codes.specs.declared.rules.Rule.Rule, media_map.specs.Places.is_granular}
 use Rattle.extent_list.specs.media_map.specs.region_config.specs.Configurations.{Configuration}
-use Rattle.release_core.specs.Removals.{by_tag_rule, prescribed_removal_rule}
+use Rattle.device_state.specs.{StateAfter.IsStateAfter, StateAfter.part_of, declared.state.State.State, device_rules.specs.Legal.Legal}
 use Rattle.device_state.specs.device_rules.specs.Outcomes.{Outcome, records_of_extents, log_full}
 use Rattle.device_state.specs.device_rules.specs.ReleaseOutcomes.{is_cleaning, is_forced, policy_in, removals, removed}
 use Rattle.device_state.specs.device_rules.specs.Views.{View, view_after, view_of}
+use Rattle.device_commands.specs.{Drafts.Drafts, ListDrafts.Tells, declared.draft.Draft.Draft}
+use Rattle.journal_core.specs.declared.{outcome.Effect.Effect, entries.Entry.Entry}
+use Rattle.release_core.specs.Removals.{by_tag_rule, prescribed_removal_rule}
 use Rattle.std.specs.declared.result.Result.{Result}
-use Rattle.extent_list.specs.dcd_codes.specs.declared.refusals.Refusal.{Refusal}
 use Rattle.fm_payloads.specs.declared.requests.FmRequest.{FmRequest}
-use Rattle.journal_core.specs.declared.entries.Entry.{Entry}
-use Rattle.device_state.specs.device_rules.specs.Legal.{Legal}
-use Rattle.device_state.specs.declared.state.State.{State}
 use Rattle.manager_commands.specs.declared.initiate_dynamic_capacity_release.RemoveRequest.{RemoveRequest}
 
 -- the rules of the host and of the flags

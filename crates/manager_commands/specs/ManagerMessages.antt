@@ -1,21 +1,12 @@
 -- What a request of the Fabric Manager is drafted as, by what the device keeps.
-use Rattle.std.specs.Prelude.{◌≤◌, List, length, Option}
-use Rattle.std.specs.declared.result.Result.{Result}
-use Rattle.extent_list.specs.dcd_codes.specs.Rules.{ByRow}
-use Rattle.extent_list.specs.dcd_codes.specs.declared.refusals.Refusal.{Refusal}
-use Rattle.extent_list.specs.dcd_codes.specs.declared.rules.Rule.{Rule}
-use Rattle.fm_payloads.specs.declared.requests.FmRequest.{FmRequest}
+use Rattle.std.specs.{Prelude.◌≤◌, Prelude.List, Prelude.length, Prelude.Option, declared.result.Result.Result}
+use Rattle.extent_list.specs.dcd_codes.specs.{Rules.ByRow, declared.refusals.Refusal.Refusal, declared.rules.Rule.Rule}
 use Rattle.extent_list.specs.media_map.specs.region_config.specs.Configurations.{Configuration}
-use Rattle.journal_core.specs.Entries.{effects}
-use Rattle.journal_core.specs.declared.entries.Entry.{Entry}
-use Rattle.device_state.specs.device_rules.specs.Answers.{manager_outcome, manager_rule}
-use Rattle.device_state.specs.device_rules.specs.Legal.{Legal}
-use Rattle.device_state.specs.device_rules.specs.Outcomes.{Outcome}
-use Rattle.device_state.specs.device_rules.specs.Views.{view_of}
-use Rattle.device_state.specs.StateAfter.{IsStateAfter}
-use Rattle.device_state.specs.declared.state.State.{State}
-use Rattle.device_commands.specs.Drafts.{Drafts, Informs, IsOutcome}
-use Rattle.device_commands.specs.declared.draft.Draft.{Draft}
+use Rattle.fm_payloads.specs.declared.requests.FmRequest.{FmRequest}
+use Rattle.journal_core.specs.{Entries.effects, declared.entries.Entry.Entry}
+use Rattle.device_state.specs.{StateAfter.IsStateAfter, declared.state.State.State, device_rules.specs.Answers.manager_outcome, device_rules.specs.Answers.manager_rule, device_rules.specs.Legal.Legal}
+use Rattle.device_state.specs.device_rules.specs.{Outcomes.Outcome, Views.view_of}
+use Rattle.device_commands.specs.{Drafts.Drafts, Drafts.Informs, Drafts.IsOutcome, declared.draft.Draft.Draft}
 
 -- the first rule that a request breaks after these entries, and what it does where it breaks none
 abbrev pub rule_after : Configuration → List Entry → FmRequest → Option Rule

@@ -1,26 +1,16 @@
 -- What of a region is in use, what another block size breaks, and what hosts are told of it, 5602h.
-use Rattle.event_records.specs.dcd_base.specs.Words.{flag_of, ◌or◌}
-use Rattle.event_records.specs.dcd_base.specs.declared.ids.HostId.{HostId}
-use Rattle.event_records.specs.dcd_base.specs.declared.steps.LogId.{LogId}
-use Rattle.extent_list.specs.dcd_codes.specs.Rules.{◌breaks◌, each_in}
-use Rattle.extent_list.specs.dcd_codes.specs.declared.rules.Rule.{Rule}
-use Rattle.device_state.specs.device_rules.specs.Outcomes.{no_extent, record_for, log_full}
-use Rattle.device_state.specs.device_rules.specs.Views.{View}
-use Rattle.event_log.specs.Logs.{IsLogOf}
-use Rattle.device_state.specs.StateAfter.{part_of}
-use Rattle.device_state.specs.declared.state.State.{State}
-use Rattle.event_records.specs.declared.events.Event.{Event}
-use Rattle.event_records.specs.declared.events.EventKind.{EventKind}
-use Rattle.selection.specs.granule_map.specs.StateLists.{is_free_at}
+use Rattle.event_records.specs.dcd_base.specs.{Words.flag_of, Words.◌or◌, declared.ids.HostId.HostId, declared.steps.LogId.LogId}
+use Rattle.event_records.specs.declared.events.{Event.Event, EventKind.EventKind}
+use Rattle.extent_list.specs.dcd_codes.specs.{Rules.◌breaks◌, Rules.each_in, declared.rules.Rule.Rule}
 use Rattle.extent_list.specs.media_map.specs.region_config.specs.Granules.{first_granule, region_granules, is_supported, hosts_of}
 use Rattle.extent_list.specs.media_map.specs.region_config.specs.declared.region_spec.RegionSpec.{RegionSpec}
+use Rattle.device_state.specs.{StateAfter.part_of, declared.state.State.State, device_rules.specs.Outcomes.no_extent, device_rules.specs.Outcomes.record_for, device_rules.specs.Outcomes.log_full}
+use Rattle.device_state.specs.device_rules.specs.{Settings.set_outcome, Views.View}
+use Rattle.event_log.specs.Logs.{IsLogOf}
+use Rattle.selection.specs.granule_map.specs.StateLists.{is_free_at}
 use Rattle.std.specs.List.{range_with_len}
 use Rattle.std.specs.Prelude.{◌≡◌, ℕ, ◌<◌, Bool, List, [], Option, count_by, false, not, ◌==◌, nat_lt, ◌∷◌, map}
-use Rattle.device_state.specs.device_rules.specs.Settings.{set_outcome}
-use Rattle.device_commands.specs.Drafts.{Informs}
-use Rattle.device_commands.specs.declared.draft.Draft.{Draft}
-use Rattle.device_commands.specs.declared.log_records.LogRecords.{LogRecords}
-use Rattle.device_commands.specs.declared.log_records.Told.{Told}
+use Rattle.device_commands.specs.{Drafts.Informs, declared.draft.Draft.Draft, declared.log_records.LogRecords.LogRecords, declared.log_records.Told.Told}
 
 -- how many of the region's granules are not free
 abbrev pub used_in : State → ℕ → ℕ

@@ -1,18 +1,12 @@
 -- An address and its place determine each other.
 use Rattle.std.proofs.Common.{◌≡◌, ℕ, zero, suc, ◌+◌, ◌-◌, ◌*◌, ◌/◌, ◌%◌, ◌^◌, ◌<◌, ◌≤◌, Bool, true, false, leb, ltb, length, Some, None, Result, Ok, Err, refl, ap, subst, sym, ◌∙◌, inl, inr, arith, div-add-mod'}
 use Rattle.std.proofs.lemmas.Bool.{and_from, and_parts, and_right, cases_lt, cases_Bool, eq-eqb, le-leb, leb-true, lt-ltb, le-ltb, ltb-true}
-use Rattle.std.proofs.lemmas.Option.{none-some, same_Some}
-use Rattle.std.proofs.lemmas.Nat.{div-mul-add, div_below, mod-mul-add, mod_below, mul-add-lt, pow-add}
-use Rattle.std.proofs.Math.Nat.{mul_assoc, mul_comm}
-use Rattle.region_config.specs.dcd_base.specs.declared.failures.AccessFault.{AccessFault}
-use Rattle.std.specs.List.{find, range_with_len}
-use Rattle.region_config.specs.dcd_base.specs.declared.ids.HostId.{HostId}
-use Rattle.region_config.specs.dcd_base.specs.declared.media.Place.{Place}
-use Rattle.region_config.specs.Configurations.{Configuration}
+use Rattle.std.proofs.{Math.Nat.mul_assoc, Math.Nat.mul_comm, lemmas.Nat.div-mul-add, lemmas.Nat.div_below, lemmas.Nat.mod-mul-add, lemmas.Nat.mod_below, lemmas.Nat.mul-add-lt, lemmas.Nat.pow-add}
+use Rattle.std.{proofs.lemmas.Option.none-some, proofs.lemmas.Option.same_Some, specs.List.find, specs.List.range_with_len}
+use Rattle.region_config.{proofs.Faultless.granule_from, proofs.Faultless.region_ends, proofs.GranuleLemmas.find_range, specs.Configurations.Configuration}
 use Rattle.region_config.specs.Granules.{base_of, first_granule, granule_size, region_granules, region_spec, regions_of}
-use Rattle.region_config.specs.Soundness.{IsSound, IsSoundRegion}
-use Rattle.region_config.proofs.Faultless.{granule_from, region_ends}
-use Rattle.region_config.proofs.GranuleLemmas.{find_range}
+use Rattle.region_config.specs.{Soundness.IsSound, Soundness.IsSoundRegion, dcd_base.specs.declared.failures.AccessFault.AccessFault, dcd_base.specs.declared.ids.HostId.HostId}
+use Rattle.region_config.specs.dcd_base.specs.declared.media.Place.{Place}
 use Rattle.media_map.specs.Places.{IsPlace, IsWord, address_of, has_address, locate, place_in}
 
 -- nothing of a range passes

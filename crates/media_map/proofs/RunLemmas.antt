@@ -1,18 +1,13 @@
 -- A range of whole granules and its run determine each other.
 use Rattle.std.proofs.Common.{◌≡◌, ℕ, suc, ◌+◌, ◌-◌, ◌*◌, ◌/◌, ◌%◌, ◌^◌, ◌<◌, ◌≤◌, Bool, true, false, not, ◌&&◌, eqb, leb, length, Option, Some, None, unwrap_or, IfSome, refl, ap, subst, sym, ◌∙◌, inl, inr, arith, div-add-mod'}
 use Rattle.std.proofs.lemmas.Bool.{and_from, and_parts, cases_eq, cases_lt, cases_Bool, eq-eqb, eqb-true, eqb-false, false≢true, le-leb, leb-true, ne_eqb, not-true, not_from_false}
-use Rattle.std.proofs.lemmas.Option.{none-some, same_Some}
-use Rattle.std.proofs.Math.Nat.{mul-div_cancel, mul-le-mul_right, mul-mod_left, zero-mul}
+use Rattle.std.proofs.{Math.Nat.mul-div_cancel, Math.Nat.mul-le-mul_right, Math.Nat.mul-mod_left, Math.Nat.zero-mul, lemmas.Option.none-some, lemmas.Option.same_Some}
 use Rattle.std.specs.List.{find}
-use Rattle.region_config.specs.dcd_base.specs.declared.ids.HostId.{HostId}
-use Rattle.region_config.specs.dcd_base.specs.declared.media.Run.{Run}
-use Rattle.region_config.specs.Configurations.{Configuration}
+use Rattle.region_config.{proofs.Faultless.granule_from, proofs.Faultless.granules_within, proofs.Faultless.region_ends, proofs.GranuleLemmas.region_is, specs.Configurations.Configuration}
 use Rattle.region_config.specs.Granules.{base_of, first_granule, granule_size, region_granules, region_of, region_spec, regions_of}
-use Rattle.region_config.specs.Soundness.{IsSound}
-use Rattle.region_config.proofs.Faultless.{granule_from, granules_within, region_ends}
-use Rattle.region_config.proofs.GranuleLemmas.{region_is}
-use Rattle.media_map.specs.Places.{IsRun, IsRunOf, bytes_of_run, has_address, is_granular, region_at, run_in, start_of}
+use Rattle.region_config.specs.{Soundness.IsSound, dcd_base.specs.declared.ids.HostId.HostId, dcd_base.specs.declared.media.Run.Run}
 use Rattle.media_map.proofs.PlaceLemmas.{find_holds, found_at, has, none_found, reach}
+use Rattle.media_map.specs.Places.{IsRun, IsRunOf, bytes_of_run, has_address, is_granular, region_at, run_in, start_of}
 
 -- a range of whole granules of a region
 pub record IsGranular (c : Configuration) (h : HostId) (start bytes r : ℕ) : Type 0 where

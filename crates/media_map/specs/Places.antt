@@ -1,19 +1,12 @@
 -- Where an address of a host lies.
-use Rattle.region_config.specs.dcd_base.specs.Words.{zero_tag}
-use Rattle.std.specs.Prelude.{not, ◌==◌, ◌≡◌, ℕ, suc, ◌+◌, ◌-◌, ◌*◌, ◌/◌, ◌%◌, ◌<◌, ◌≤◌, Bool, ◌&&◌, nat_le, nat_lt, length, Option, Some, None, unwrap_or, if◌then◌else◌}
-use Rattle.region_config.specs.dcd_base.specs.declared.capacity.Tag.{Tag}
-use Rattle.std.specs.declared.result.Result.{Result}
-use Rattle.std.specs.declared.result.Result.TheVariants.{Ok, Err}
-use Rattle.std.specs.List.{find}
-use Rattle.region_config.specs.dcd_base.specs.declared.ids.HostId.{HostId}
 use Rattle.region_config.specs.Configurations.{Configuration}
-use Rattle.region_config.specs.dcd_base.specs.declared.capacity.Extent.{Extent}
-use Rattle.region_config.specs.dcd_base.specs.declared.media.Run.{Run}
-use Rattle.region_config.specs.dcd_base.specs.declared.media.Place.{Place}
-use Rattle.media_map.specs.declared.bounds.Bounds.{Bounds}
-use Rattle.region_config.specs.dcd_base.specs.declared.failures.AccessFault.{AccessFault}
-use Rattle.region_config.specs.dcd_base.specs.declared.failures.AccessFault.TheVariants.{Misaligned, OutsideRegions}
 use Rattle.region_config.specs.Granules.{region_spec, regions_of, base_of, granule_size, granule_total, first_granule, region_of}
+use Rattle.region_config.specs.dcd_base.specs.{Words.zero_tag, declared.capacity.Extent.Extent, declared.capacity.Tag.Tag, declared.failures.AccessFault.AccessFault}
+use Rattle.region_config.specs.dcd_base.specs.declared.{failures.AccessFault.TheVariants.Misaligned, failures.AccessFault.TheVariants.OutsideRegions, ids.HostId.HostId, media.Place.Place}
+use Rattle.region_config.specs.dcd_base.specs.declared.media.Run.{Run}
+use Rattle.std.specs.Prelude.{not, ◌==◌, ◌≡◌, ℕ, suc, ◌+◌, ◌-◌, ◌*◌, ◌/◌, ◌%◌, ◌<◌, ◌≤◌, Bool, ◌&&◌, nat_le, nat_lt, length, Option, Some, None, unwrap_or, if◌then◌else◌}
+use Rattle.std.specs.{declared.result.Result.Result, declared.result.Result.TheVariants.Ok, declared.result.Result.TheVariants.Err, List.find}
+use Rattle.media_map.specs.declared.bounds.Bounds.{Bounds}
 
 -- whether the region has the host's address
 abbrev pub has_address : Configuration → HostId → ℕ → ℕ → Bool

@@ -1,29 +1,17 @@
 -- A response that lists extents of the oldest offer whole, in order and each at most once breaks no rule.
 use Rattle.std.proofs.Common.{◌≡◌, ℕ, ◌+◌, ◌<◌, ◌≤◌, Bool, true, false, ◌&&◌, not, List, [], ◌∷◌, ◌++◌, None, length, map, refl, ap, ◌∙◌, inl, inr, ◌⊎◌, arith}
-use Rattle.std.specs.List.{list_any, position, position_from}
+use Rattle.std.{proofs.lemmas.Iterator.Adapters.position_from-zero, proofs.lemmas.List.Elements.All-tail, specs.List.list_any, specs.List.position, specs.List.position_from}
 use Rattle.std.specs.Prelude.{All, AllPairs, IsFalse, nat_le, nat_lt}
 use Rattle.std.proofs.lemmas.Bool.{and_parts, and_right, cases_Bool, le-ltb, leb-true, ltb-true, ne_eqb, or_from, or_parts}
-use Rattle.std.proofs.lemmas.Iterator.Adapters.{position_from-zero}
-use Rattle.std.proofs.lemmas.List.Elements.{All-tail}
-use Rattle.extent_list.specs.dcd_codes.specs.dcd_base.specs.declared.capacity.Extent.{Extent}
-use Rattle.extent_list.specs.dcd_codes.specs.dcd_base.specs.declared.capacity.Tag.{Tag}
-use Rattle.extent_list.specs.dcd_codes.specs.dcd_base.specs.declared.ids.HostId.{HostId}
-use Rattle.extent_list.specs.dcd_codes.specs.dcd_base.specs.Words.{◌or◌}
-use Rattle.extent_list.specs.dcd_codes.specs.Rules.{first_by}
-use Rattle.extent_list.specs.ExtentLists.{count_in, count_of_tag, is_whole, marked, overlaps, tags_of}
+use Rattle.extent_list.specs.{ExtentLists.count_in, ExtentLists.count_of_tag, ExtentLists.is_whole, ExtentLists.marked, ExtentLists.overlaps, ExtentLists.tags_of, dcd_codes.specs.Rules.first_by}
+use Rattle.extent_list.specs.dcd_codes.specs.dcd_base.specs.{Words.◌or◌, declared.capacity.Extent.Extent, declared.capacity.Tag.Tag, declared.ids.HostId.HostId}
+use Rattle.extent_list.specs.media_map.{proofs.PlaceLemmas.has, proofs.RunLemmas.region_at_is, specs.Places.region_at, specs.region_config.specs.Configurations.Configuration}
+use Rattle.extent_list.specs.media_map.specs.region_config.specs.{Granules.base_of, Granules.region_spec, Soundness.IsSound}
 use Rattle.extent_list.specs.Listing.{incomplete, is_shareable_at, lies_in_region, is_aligned, misplaced, not_whole, shared_of, some_left, too_few_of}
-use Rattle.extent_list.specs.media_map.specs.Places.{region_at}
-use Rattle.extent_list.specs.media_map.proofs.PlaceLemmas.{has}
-use Rattle.extent_list.specs.media_map.proofs.RunLemmas.{region_at_is}
-use Rattle.extent_list.specs.media_map.specs.region_config.specs.Configurations.{Configuration}
-use Rattle.extent_list.specs.media_map.specs.region_config.specs.Granules.{base_of, region_spec}
-use Rattle.extent_list.specs.media_map.specs.region_config.specs.Soundness.{IsSound}
 use Rattle.offer_core.proofs.Counting.{count_in-cons}
+use Rattle.offer_core.specs.{InOrder.AreSome, InOrder.none, InOrder.taken, InOrder.left, InOrder.IsInOrder, InOrder.IsSoundIn, InOrder.SameAddresses, Offerings.Offering, Offerings.lists_of}
+use Rattle.offer_core.specs.{Responses.extent_rule, Responses.respond_rule, declared.offer.Offer.Offer}
 use Rattle.offer_core.proofs.Owners.{AllPairs-first, AllPairs-others, All-first, AreSome-few, IsOwner, marked_all, owned, owner_in, owner_whole}
-use Rattle.offer_core.specs.declared.offer.Offer.{Offer}
-use Rattle.offer_core.specs.InOrder.{AreSome, none, taken, left, IsInOrder, IsSoundIn, SameAddresses}
-use Rattle.offer_core.specs.Offerings.{Offering, lists_of}
-use Rattle.offer_core.specs.Responses.{extent_rule, respond_rule}
 
 -- ---- no address twice
 

@@ -1,10 +1,8 @@
 -- How many extents stand in offers.
 use Rattle.std.proofs.Common.{◌≡◌, ◌+◌, ◌≤◌, List, [], ◌∷◌, length, refl, drop, arith}
 use Rattle.std.proofs.lemmas.List.Sums.{sum_by-cons}
-use Rattle.extent_list.specs.dcd_codes.specs.dcd_base.specs.declared.capacity.Extent.{Extent}
-use Rattle.extent_list.specs.ExtentLists.{count_in}
-use Rattle.offer_core.specs.declared.offer.Offer.{Offer}
-use Rattle.offer_core.specs.Offerings.{lists_of, oldest_of}
+use Rattle.extent_list.specs.{dcd_codes.specs.dcd_base.specs.declared.capacity.Extent.Extent, ExtentLists.count_in}
+use Rattle.offer_core.specs.{declared.offer.Offer.Offer, Offerings.lists_of, Offerings.oldest_of}
 
 pub count_in-cons : (xs : List Extent) (later : List (List Extent)) → count_in (xs ∷ later) ≡ length xs + count_in later
 count_in-cons xs later = sum_by-cons (λ (ys : List Extent). length ys) xs later

@@ -1,15 +1,9 @@
 -- Where there is no offer, nothing can be listed.
 use Rattle.std.proofs.Common.{◌≡◌, ℕ, Bool, false, List, [], ◌∷◌, ◌++◌, Option, Some, None, refl, ap, subst}
-use Rattle.extent_list.specs.dcd_codes.specs.dcd_base.specs.declared.capacity.Extent.{Extent}
-use Rattle.extent_list.specs.dcd_codes.specs.dcd_base.specs.declared.ids.HostId.{HostId}
-use Rattle.extent_list.specs.dcd_codes.specs.dcd_base.specs.Words.{◌or◌}
-use Rattle.extent_list.specs.dcd_codes.specs.declared.rules.Rule.{Rule}
-use Rattle.extent_list.specs.Listing.{misplaced, too_many_listed}
-use Rattle.extent_list.specs.media_map.specs.Places.{region_at}
+use Rattle.extent_list.specs.{Listing.misplaced, Listing.too_many_listed, dcd_codes.specs.dcd_base.specs.Words.◌or◌, dcd_codes.specs.dcd_base.specs.declared.capacity.Extent.Extent}
+use Rattle.extent_list.specs.{dcd_codes.specs.dcd_base.specs.declared.ids.HostId.HostId, dcd_codes.specs.declared.rules.Rule.Rule, media_map.specs.Places.region_at}
 use Rattle.extent_list.specs.media_map.specs.region_config.specs.Configurations.{Configuration}
-use Rattle.offer_core.specs.declared.offer.Offer.{Offer}
-use Rattle.offer_core.specs.Offerings.{lists_of}
-use Rattle.offer_core.specs.Responses.{response_list_rule, respond_rule}
+use Rattle.offer_core.specs.{declared.offer.Offer.Offer, Offerings.lists_of, Responses.response_list_rule, Responses.respond_rule}
 
 some_none : {X : Type 0} (x : X) → Some x ≡ None → ⊥
 some_none x e = cc

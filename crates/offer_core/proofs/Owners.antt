@@ -1,15 +1,12 @@
 -- An extent that is listed whole lies first in the very extent that it lists.
 use Rattle.std.proofs.Common.{◌≡◌, ℕ, suc, ◌+◌, ◌<◌, ◌≤◌, Bool, true, false, List, [], ◌∷◌, Some, length, map, refl, sym, ap, subst, ◌∙◌, inl, inr, arith}
-use Rattle.std.specs.List.{find, list_any}
+use Rattle.std.proofs.lemmas.{Bool.and_from, Bool.and_parts, Bool.cases_Bool, Bool.eq-eqb, Bool.false≢true, Bool.le-leb, Bool.leb-true, Bool.lt-ltb, List.Elements.All-tail}
+use Rattle.std.{proofs.lemmas.Option.none-some, proofs.lemmas.Option.same_Some, specs.List.find, specs.List.list_any}
 use Rattle.std.specs.Prelude.{All, AllPairs, IsFalse, nat_le, nat_lt, unwrap_or}
-use Rattle.std.proofs.lemmas.Bool.{and_from, and_parts, cases_Bool, eq-eqb, false≢true, le-leb, leb-true, lt-ltb}
-use Rattle.std.proofs.lemmas.List.Elements.{All-tail}
-use Rattle.std.proofs.lemmas.Option.{none-some, same_Some}
-use Rattle.extent_list.specs.dcd_codes.specs.dcd_base.specs.declared.capacity.Extent.{Extent}
-use Rattle.extent_list.specs.dcd_codes.specs.dcd_base.specs.declared.ids.HostId.{HostId}
 use Rattle.extent_list.specs.ExtentLists.{is_in, is_whole, lies_in, marked, overlaps, owner_of}
-use Rattle.offer_core.specs.InOrder.{AreSome, none, taken, left, IsSoundIn, SameAddresses}
+use Rattle.extent_list.specs.dcd_codes.specs.dcd_base.specs.declared.{capacity.Extent.Extent, ids.HostId.HostId}
 use Rattle.extent_list.specs.media_map.specs.region_config.specs.Configurations.{Configuration}
+use Rattle.offer_core.specs.InOrder.{AreSome, none, taken, left, IsSoundIn, SameAddresses}
 
 -- a list's first, and the others
 pub All-first : {X : Type 0} (P : X → Type 0) (x : X) (xs : List X) → All P (x ∷ xs) → P x

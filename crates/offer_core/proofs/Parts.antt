@@ -1,12 +1,8 @@
 -- Offers as one list of extents: what comes and goes.
 use Rattle.std.proofs.Common.{◌≡◌, ℕ, zero, suc, ◌+◌, ◌≤◌, ◌<◌, List, [], ◌∷◌, ◌++◌, Some, drop, get_or, length, slice_get, take, refl, sym, ap, subst, ◌∙◌, arith}
 use Rattle.std.proofs.lemmas.List.{drop-append-le, drop-drop, drop-map, drop_all, drop_more, length-append, length-drop, length-take-le, take-append-le, take_all}
-use Rattle.extent_list.specs.dcd_codes.specs.dcd_base.specs.declared.capacity.Extent.{Extent}
-use Rattle.extent_list.specs.ExtentLists.{count_in}
-use Rattle.offer_core.specs.declared.offer.Offer.{Offer}
-use Rattle.offer_core.specs.Offerings.{lists_of}
-use Rattle.offer_core.specs.Parting.{AreParts, parted}
-use Rattle.offer_core.proofs.Counting.{count_in-cons}
+use Rattle.extent_list.specs.{dcd_codes.specs.dcd_base.specs.declared.capacity.Extent.Extent, ExtentLists.count_in}
+use Rattle.offer_core.{specs.declared.offer.Offer.Offer, specs.Offerings.lists_of, specs.Parting.AreParts, specs.Parting.parted, proofs.Counting.count_in-cons}
 
 -- ---- one offer more
 

@@ -1,14 +1,9 @@
 -- The row of a response that is not too long, and to which no more is to come.
 use Rattle.std.proofs.Common.{◌≡◌, ℕ, ◌+◌, ◌≤◌, Bool, false, List, ◌++◌, length, length-append, Some, refl, arith}
-use Rattle.std.specs.Prelude.{nat_lt}
-use Rattle.std.proofs.lemmas.Bool.{le-ltb}
-use Rattle.extent_list.specs.dcd_codes.specs.dcd_base.specs.declared.capacity.Extent.{Extent}
-use Rattle.extent_list.specs.dcd_codes.specs.dcd_base.specs.declared.ids.HostId.{HostId}
-use Rattle.extent_list.specs.dcd_codes.specs.declared.rules.Rule.{Rule}
-use Rattle.extent_list.specs.dcd_codes.specs.Rules.{each_in}
+use Rattle.std.{specs.Prelude.nat_lt, proofs.lemmas.Bool.le-ltb}
+use Rattle.extent_list.specs.dcd_codes.specs.{Rules.each_in, dcd_base.specs.declared.capacity.Extent.Extent, dcd_base.specs.declared.ids.HostId.HostId, declared.rules.Rule.Rule}
 use Rattle.extent_list.specs.media_map.specs.region_config.specs.Configurations.{Configuration}
-use Rattle.offer_core.specs.Offerings.{oldest_of}
-use Rattle.offer_core.specs.Responses.{extent_rule, response_list_rule, respond_rule}
+use Rattle.offer_core.specs.{Offerings.oldest_of, Responses.extent_rule, Responses.response_list_rule, Responses.respond_rule}
 
 module _ (c : Configuration) (h : HostId) (accepted : ℕ) (offers : List (List Extent)) where
   -- the whole list is tried

@@ -1,16 +1,10 @@
 -- What a response does.
-use Rattle.std.specs.declared.result.Result.{Result}
-use Rattle.std.specs.declared.result.Result.TheVariants.{Ok, Err}
+use Rattle.std.specs.declared.result.Result.{Result, TheVariants.Ok, TheVariants.Err}
 use Rattle.std.specs.Prelude.{◌≡◌, Bool, true, false, List, [], ◌∷◌, ◌++◌, ℕ, map}
-use Rattle.extent_list.specs.dcd_codes.specs.dcd_base.specs.declared.capacity.Extent.{Extent}
-use Rattle.extent_list.specs.dcd_codes.specs.dcd_base.specs.declared.ids.HostId.{HostId}
-use Rattle.extent_list.specs.dcd_codes.specs.declared.refusals.Refusal.{Refusal}
-use Rattle.extent_list.specs.dcd_codes.specs.Rules.{ByRow}
-use Rattle.extent_list.specs.ExtentLists.{marked}
-use Rattle.offer_core.specs.declared.answered.Answered.{Answered}
-use Rattle.offer_core.specs.Offerings.{Offering, lists_of}
-use Rattle.offer_core.specs.Responses.{respond_rule}
+use Rattle.extent_list.specs.{ExtentLists.marked, dcd_codes.specs.Rules.ByRow, dcd_codes.specs.dcd_base.specs.declared.capacity.Extent.Extent}
+use Rattle.extent_list.specs.dcd_codes.specs.{dcd_base.specs.declared.ids.HostId.HostId, declared.refusals.Refusal.Refusal}
 use Rattle.extent_list.specs.media_map.specs.region_config.specs.Configurations.{Configuration}
+use Rattle.offer_core.specs.{declared.answered.Answered.Answered, Offerings.Offering, Offerings.lists_of, Responses.respond_rule}
 
 -- What was there, whether more is to come, the message's list, what is there then, and what was answered.
 abbrev pub Responds : Offering → Bool → List Extent → Offering → Answered → Type 0

@@ -1,13 +1,9 @@
 -- Responses that list extents of the oldest offer whole and in order.
 use Rattle.std.specs.Prelude.{◌≡◌, ◌⊎◌, ℕ, ◌<◌, Bool, false, List, [], ◌∷◌, IsFalse, IsTrue, All, AllPairs, length}
-use Rattle.extent_list.specs.dcd_codes.specs.dcd_base.specs.declared.capacity.Extent.{Extent}
-use Rattle.extent_list.specs.dcd_codes.specs.dcd_base.specs.declared.ids.HostId.{HostId}
-use Rattle.extent_list.specs.ExtentLists.{overlaps}
-use Rattle.extent_list.specs.Listing.{is_aligned, lies_in_region}
-use Rattle.offer_core.specs.declared.offer.Offer.{Offer}
-use Rattle.offer_core.specs.Offerings.{Offering}
-use Rattle.extent_list.specs.media_map.specs.region_config.specs.Configurations.{Configuration}
+use Rattle.extent_list.specs.{ExtentLists.overlaps, Listing.is_aligned, Listing.lies_in_region, dcd_codes.specs.dcd_base.specs.declared.capacity.Extent.Extent}
+use Rattle.extent_list.specs.{dcd_codes.specs.dcd_base.specs.declared.ids.HostId.HostId, media_map.specs.region_config.specs.Configurations.Configuration}
 use Rattle.extent_list.specs.media_map.specs.region_config.specs.Granules.{region_spec}
+use Rattle.offer_core.specs.{declared.offer.Offer.Offer, Offerings.Offering}
 
 -- The addresses are the same; tags and sequences are not read.
 pub record SameAddresses (x y : Extent) : Type 0 where

@@ -1,15 +1,10 @@
 -- The rules of a host's response to its oldest offer, in order (opcode 4802h).
 use Rattle.std.specs.Prelude.{ℕ, ◌+◌, Bool, not, List, ◌++◌, drop, length, Option}
-use Rattle.extent_list.specs.dcd_codes.specs.dcd_base.specs.declared.capacity.Extent.{Extent}
-use Rattle.extent_list.specs.dcd_codes.specs.dcd_base.specs.declared.ids.HostId.{HostId}
-use Rattle.extent_list.specs.dcd_codes.specs.dcd_base.specs.Words.{◌or◌, where_true}
-use Rattle.extent_list.specs.dcd_codes.specs.declared.rules.Rule.{Rule}
-use Rattle.extent_list.specs.dcd_codes.specs.Rules.{◌breaks◌, each_in}
-use Rattle.extent_list.specs.ExtentLists.{count_in, is_in}
-use Rattle.extent_list.specs.Listing.{incomplete, misplaced, not_whole, overlapping, too_many_extents, too_many_listed}
-use Rattle.extent_list.specs.media_map.specs.Places.{region_at}
-use Rattle.offer_core.specs.Offerings.{oldest_of}
+use Rattle.extent_list.specs.{ExtentLists.count_in, ExtentLists.is_in, Listing.incomplete, Listing.misplaced, Listing.not_whole, Listing.overlapping, Listing.too_many_extents, Listing.too_many_listed}
+use Rattle.extent_list.specs.dcd_codes.specs.{Rules.◌breaks◌, Rules.each_in, dcd_base.specs.Words.◌or◌, dcd_base.specs.Words.where_true, dcd_base.specs.declared.capacity.Extent.Extent}
+use Rattle.extent_list.specs.{dcd_codes.specs.dcd_base.specs.declared.ids.HostId.HostId, dcd_codes.specs.declared.rules.Rule.Rule, media_map.specs.Places.region_at}
 use Rattle.extent_list.specs.media_map.specs.region_config.specs.Configurations.{Configuration}
+use Rattle.offer_core.specs.Offerings.{oldest_of}
 
 -- an extent of the response, beside those before it
 abbrev pub extent_rule : Configuration → HostId → List Extent → List Extent → Extent → Option Rule

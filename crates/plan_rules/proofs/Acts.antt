@@ -1,38 +1,18 @@
 -- What each act of a plan leaves behind a legal journal.
 use Rattle.std.proofs.Common.{◌≡◌, ℕ, ◌<◌, Bool, true, false, ◌==◌, List, [], ◌++◌, length, Option, Some, None, refl, sym, subst, arith}
-use Rattle.std.specs.Prelude.{if◌then◌else◌, slice_index}
-use Rattle.std.specs.declared.result.Result.TheVariants.{Ok, Err}
-use Rattle.dcd_base.specs.declared.ids.HostId.{HostId}
-use Rattle.dcd_base.specs.declared.steps.Actor.{Actor}
-use Rattle.dcd_base.specs.declared.steps.LogId.{LogId}
+use Rattle.std.specs.{Prelude.if◌then◌else◌, Prelude.slice_index, declared.result.Result.TheVariants.Ok, declared.result.Result.TheVariants.Err}
+use Rattle.dcd_base.specs.{EventCommands.clear_length, EventCommands.handles_in, Layouts.spelling, Payloads.has_flag, declared.faults.PayloadFault.PayloadFault, declared.ids.HostId.HostId}
+use Rattle.dcd_base.specs.declared.steps.{Actor.Actor, LogId.LogId}
 use Rattle.dcd_codes.specs.declared.rules.Rule.{Rule}
-use Rattle.dcd_base.specs.EventCommands.{clear_length, handles_in}
-use Rattle.dcd_base.specs.Layouts.{spelling}
-use Rattle.dcd_base.specs.Payloads.{has_flag}
-use Rattle.dcd_base.specs.declared.faults.PayloadFault.{PayloadFault}
-use Rattle.host_payloads.specs.HostPayloads.{clear_asked, host_fields, host_request}
-use Rattle.host_payloads.specs.declared.requests.HostRequest.{HostRequest}
-use Rattle.region_config.specs.Configurations.{Configuration}
-use Rattle.region_config.specs.Soundness.{IsSound}
-use Rattle.journal_core.specs.Entries.{effects}
-use Rattle.journal_core.specs.declared.acts.Act.{Act}
-use Rattle.journal_core.specs.declared.outcome.HeldKind.{HeldKind}
-use Rattle.journal_core.specs.declared.entries.Entry.{Entry}
-use Rattle.journal_core.proofs.JournalSteps.{effects-push}
-use Rattle.isolation_laws.specs.device_rules.specs.Answers.{effects_with, host_outcome, host_result, host_rule, unless}
-use Rattle.isolation_laws.specs.device_rules.specs.Hosts.{held_of, offers_of}
-use Rattle.isolation_laws.specs.device_rules.specs.Legal.{Legal}
-use Rattle.isolation_laws.specs.device_rules.specs.Outcomes.{Outcome}
-use Rattle.isolation_laws.specs.device_rules.specs.Views.{View, view_of}
-use Rattle.isolation_laws.specs.device_rules.proofs.EffectKinds.{clear_passes}
-use Rattle.plan_rules.specs.Kept.{KeepsHosts, effects_behind}
-use Rattle.plan_rules.proofs.Keeping.{blocks_over, host_kept, leaves_host, outcome_blocks, outcome_host_kept}
-use Rattle.isolation_laws.proofs.RemovalViews.{no_block as leaves_blocks}
-use Rattle.plan_rules.proofs.LettingGo.{lets_offers_go, scrubs_keep}
-use Rattle.plan_rules.specs.Holding.{Step, entry_of_step}
-use Rattle.plan_rules.specs.Listing.{by_host}
-use Rattle.plan_rules.specs.ActsLeft.{OldestOfferGoes, journal_behind}
-use Rattle.plan_rules.proofs.Heard.{response_heard}
+use Rattle.host_payloads.specs.{HostPayloads.clear_asked, HostPayloads.host_fields, HostPayloads.host_request, declared.requests.HostRequest.HostRequest}
+use Rattle.region_config.specs.{Configurations.Configuration, Soundness.IsSound}
+use Rattle.journal_core.{specs.Entries.effects, specs.declared.acts.Act.Act, specs.declared.outcome.HeldKind.HeldKind, specs.declared.entries.Entry.Entry, proofs.JournalSteps.effects-push}
+use Rattle.isolation_laws.{proofs.RemovalViews.no_block as leaves_blocks, specs.device_rules.proofs.EffectKinds.clear_passes}
+use Rattle.isolation_laws.specs.device_rules.specs.{Answers.effects_with, Answers.host_outcome, Answers.host_result, Answers.host_rule, Answers.unless, Hosts.held_of, Hosts.offers_of, Legal.Legal}
+use Rattle.isolation_laws.specs.device_rules.specs.{Outcomes.Outcome, Views.View, Views.view_of}
+use Rattle.plan_rules.proofs.{Heard.response_heard, Keeping.blocks_over, Keeping.host_kept, Keeping.leaves_host, Keeping.outcome_blocks, Keeping.outcome_host_kept}
+use Rattle.plan_rules.{proofs.LettingGo.lets_offers_go, proofs.LettingGo.scrubs_keep, specs.ActsLeft.OldestOfferGoes, specs.ActsLeft.journal_behind, specs.Holding.Step, specs.Holding.entry_of_step}
+use Rattle.plan_rules.specs.{Kept.KeepsHosts, Kept.effects_behind, Listing.by_host}
 
 -- the effects behind an act are those before it and those of its answer
 pub behind_is : (c : Configuration) (journal : List Entry) (s : Step) → effects (journal_behind c journal s) ≡ effects_behind c journal s.0 s.1

@@ -1,29 +1,17 @@
 -- Over journals that are alike a plan is the same, and has the same fault.
 use Rattle.std.proofs.Common.{◌≡◌, ℕ, ◌++◌, List, [], ◌∷◌, length, Option, Some, None, refl, ap, subst, ◌∙◌}
-use Rattle.std.specs.Prelude.{◌==◌, if◌then◌else◌, nat_lt, option_and_then, option_map, is_some, slice_get, take}
-use Rattle.std.specs.Result.{result_err}
-use Rattle.dcd_base.specs.Words.{◌or◌}
-use Rattle.dcd_base.specs.declared.steps.Actor.{Actor}
+use Rattle.std.specs.{Prelude.◌==◌, Prelude.if◌then◌else◌, Prelude.nat_lt, Prelude.option_and_then, Prelude.option_map, Prelude.is_some, Prelude.slice_get, Prelude.take, Result.result_err}
+use Rattle.std.specs.declared.result.Result.{Result, TheVariants.Ok, TheVariants.Err}
+use Rattle.dcd_base.specs.{Words.◌or◌, declared.steps.Actor.Actor, declared.faults.PayloadFault.PayloadFault}
 use Rattle.region_config.specs.Configurations.{Configuration}
-use Rattle.journal_core.specs.Entries.{effects}
-use Rattle.journal_core.specs.declared.acts.Act.{Act}
-use Rattle.journal_core.specs.declared.entries.Entry.{Entry}
-use Rattle.journal_core.specs.declared.outcome.Effect.{Effect}
-use Rattle.std.specs.declared.result.Result.{Result}
-use Rattle.std.specs.declared.result.Result.TheVariants.{Ok, Err}
-use Rattle.fm_payloads.specs.declared.requests.FmRequest.{FmRequest}
-use Rattle.dcd_base.specs.declared.faults.PayloadFault.{PayloadFault}
-use Rattle.isolation_laws.specs.device_rules.specs.Answers.{broken, broken_host, manager_outcome, manager_result, manager_rule, unless}
-use Rattle.fm_payloads.specs.ManagerPayloads.{manager_request}
+use Rattle.journal_core.specs.{Entries.effects, declared.acts.Act.Act, declared.entries.Entry.Entry, declared.outcome.Effect.Effect}
+use Rattle.fm_payloads.specs.{declared.requests.FmRequest.FmRequest, ManagerPayloads.manager_request}
 use Rattle.isolation_laws.specs.device_rules.proofs.Answered.{view_same}
-use Rattle.plan_rules.specs.declared.demands.Demand.{Demand}
-use Rattle.plan_rules.specs.declared.demands.Demands.{Demands}
-use Rattle.plan_rules.specs.PlanAlike.{PlanAlike}
-use Rattle.plan_rules.specs.Holding.{Step, gain, stepped}
+use Rattle.isolation_laws.specs.device_rules.specs.Answers.{broken, broken_host, manager_outcome, manager_result, manager_rule, unless}
+use Rattle.plan_rules.{proofs.AlikeSteps.alike_stepped, specs.Holding.Step, specs.Holding.gain, specs.Holding.stepped, specs.PlanAlike.PlanAlike, specs.declared.demands.Demand.Demand}
+use Rattle.plan_rules.specs.declared.{demands.Demands.Demands, faults.PlanFault.PlanFault}
 use Rattle.plan_rules.specs.Listing.{added, gained, gaining, losing, planned, prepared, ready, offer_taken, zeroing}
 use Rattle.plan_rules.specs.Planning.{broken_at, broken_by, lowest_below, free_in, is_open, named_fault, need_in, plan_fault, refused_in, short_fault}
-use Rattle.plan_rules.specs.declared.faults.PlanFault.{PlanFault}
-use Rattle.plan_rules.proofs.AlikeSteps.{alike_stepped}
 
 module _ (c : Configuration) where
   -- ---- the list

@@ -1,24 +1,13 @@
 -- Journals that are alike go on being so.
 use Rattle.std.proofs.Common.{◌≡◌, ℕ, ◌+◌, true, false, List, [], ◌∷◌, ◌++◌, refl, sym, ap, ◌∙◌, append-nil, inl, inr, subst}
-use Rattle.std.specs.Prelude.{if◌then◌else◌, IsFalse, IsTrue}
-use Rattle.std.specs.List.{list_any}
-use Rattle.std.proofs.lemmas.Bool.{cases_Bool}
-use Rattle.std.proofs.lemmas.List.Sums.{fold_push}
-use Rattle.dcd_base.specs.declared.ids.HostId.{HostId}
-use Rattle.dcd_base.specs.declared.steps.Actor.{Actor}
+use Rattle.std.{specs.Prelude.if◌then◌else◌, specs.Prelude.IsFalse, specs.Prelude.IsTrue, specs.List.list_any, proofs.lemmas.Bool.cases_Bool, proofs.lemmas.List.Sums.fold_push}
+use Rattle.dcd_base.specs.declared.{ids.HostId.HostId, steps.Actor.Actor}
 use Rattle.region_config.specs.Configurations.{Configuration}
-use Rattle.journal_core.specs.Entries.{effects, is_control}
-use Rattle.journal_core.specs.declared.acts.Act.{Act}
-use Rattle.journal_core.specs.declared.entries.Entry.{Entry}
+use Rattle.journal_core.{proofs.JournalSteps.effects-push, specs.Entries.effects, specs.Entries.is_control, specs.declared.acts.Act.Act, specs.declared.entries.Entry.Entry}
 use Rattle.journal_core.specs.declared.outcome.Effect.{Effect}
-use Rattle.journal_core.proofs.JournalSteps.{effects-push}
-use Rattle.isolation_laws.specs.device_rules.specs.Answers.{answer}
-use Rattle.isolation_laws.specs.device_rules.specs.Hosts.{changes_of, moves}
+use Rattle.isolation_laws.specs.device_rules.{proofs.Answered.answer_same, proofs.LegalSteps.by_steps, specs.Answers.answer, specs.Hosts.changes_of, specs.Hosts.moves}
 use Rattle.isolation_laws.specs.device_rules.specs.Legal.{Legal, Meets, right_answer}
-use Rattle.isolation_laws.specs.device_rules.proofs.LegalSteps.{by_steps}
-use Rattle.isolation_laws.specs.device_rules.proofs.Answered.{answer_same}
-use Rattle.plan_rules.specs.PlanAlike.{PlanAlike, replayed, with_act_of}
-use Rattle.plan_rules.specs.Holding.{Step, entry_of_step, stepped}
+use Rattle.plan_rules.specs.{PlanAlike.PlanAlike, PlanAlike.replayed, PlanAlike.with_act_of, Holding.Step, Holding.entry_of_step, Holding.stepped}
 
 never : IsTrue false → ⊥
 never e = cc

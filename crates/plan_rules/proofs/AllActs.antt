@@ -1,21 +1,11 @@
 -- All acts of a plan leave what they are to leave, and so a plan without a fault leaves what was demanded.
 use Rattle.std.proofs.Common.{◌≡◌, List, None}
-use Rattle.region_config.specs.Configurations.{Configuration}
-use Rattle.region_config.specs.Soundness.{IsSound}
-use Rattle.journal_core.specs.Entries.{effects}
-use Rattle.journal_core.specs.declared.entries.Entry.{Entry}
+use Rattle.region_config.specs.{Configurations.Configuration, Soundness.IsSound}
+use Rattle.journal_core.specs.{Entries.effects, declared.entries.Entry.Entry}
 use Rattle.isolation_laws.specs.device_rules.specs.Legal.{Legal}
+use Rattle.plan_rules.proofs.{Acts.clearing_keeps, Acts.refusal_leaves, Acts.scrub_leaves, Meeting.plan_meets_by, PartsGivenBack.giving_leaves, Providing.providing_leaves}
+use Rattle.plan_rules.{proofs.RegionsEmptied.emptying_leaves, specs.ActsLeft.ActsLeaveAll, specs.Holding.stepped, specs.Listing.planned, specs.Meeting.MeetsDemands, specs.Planning.plan_fault}
 use Rattle.plan_rules.specs.declared.demands.Demands.{Demands}
-use Rattle.plan_rules.specs.Holding.{stepped}
-use Rattle.plan_rules.specs.Listing.{planned}
-use Rattle.plan_rules.specs.Meeting.{MeetsDemands}
-use Rattle.plan_rules.specs.Planning.{plan_fault}
-use Rattle.plan_rules.specs.ActsLeft.{ActsLeaveAll}
-use Rattle.plan_rules.proofs.Acts.{clearing_keeps, refusal_leaves, scrub_leaves}
-use Rattle.plan_rules.proofs.RegionsEmptied.{emptying_leaves}
-use Rattle.plan_rules.proofs.PartsGivenBack.{giving_leaves}
-use Rattle.plan_rules.proofs.Meeting.{plan_meets_by}
-use Rattle.plan_rules.proofs.Providing.{providing_leaves}
 
 pub acts_leave : (c : Configuration) → IsSound c → ActsLeaveAll c
 acts_leave c sound journal legal = record {

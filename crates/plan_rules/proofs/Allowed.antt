@@ -1,28 +1,15 @@
 -- Extents that may leave their host break none of the rules of a list of such extents.
 use Rattle.std.proofs.Common.{◌≡◌, ℕ, ◌+◌, Bool, true, false, not, ◌&&◌, ◌||◌, List, [], ◌∷◌, ◌++◌, length, None, refl, ap, ◌∙◌, arith, eqb, leb, ltb}
-use Rattle.std.specs.Prelude.{Option}
-use Rattle.std.specs.List.{AllByRecursion, list_any, position}
-use Rattle.std.proofs.lemmas.Bool.{ne_eqb, or_from}
-use Rattle.std.proofs.lemmas.List.Folds.{list_any-append}
-use Rattle.std.proofs.lemmas.Iterator.Adapters.{position_from-zero}
-use Rattle.dcd_base.specs.declared.capacity.Extent.{Extent}
-use Rattle.dcd_base.specs.declared.ids.HostId.{HostId}
-use Rattle.dcd_codes.specs.Rules.{each_in, first_by}
-use Rattle.dcd_codes.specs.declared.rules.Rule.{Rule}
-use Rattle.extent_list.specs.ExtentLists.{is_in, is_whole, overlaps}
-use Rattle.extent_list.specs.Listing.{is_shareable_at, lies_in_region, misplaced}
+use Rattle.std.proofs.lemmas.{Bool.ne_eqb, Bool.or_from, Iterator.Adapters.position_from-zero, List.Folds.list_any-append}
+use Rattle.std.specs.{List.AllByRecursion, List.list_any, List.position, Prelude.Option}
+use Rattle.dcd_base.specs.declared.{capacity.Extent.Extent, ids.HostId.HostId}
+use Rattle.dcd_codes.specs.{Rules.each_in, Rules.first_by, declared.rules.Rule.Rule}
+use Rattle.extent_list.specs.{ExtentLists.is_in, ExtentLists.is_whole, ExtentLists.overlaps, Listing.is_shareable_at, Listing.lies_in_region, Listing.misplaced}
 use Rattle.media_map.specs.Places.{region_at}
-use Rattle.region_config.specs.Configurations.{Configuration}
-use Rattle.region_config.specs.Granules.{region_spec, with_blocks}
-use Rattle.isolation_laws.specs.device_rules.proofs.ListSteps.{each-both}
-use Rattle.isolation_laws.specs.device_rules.specs.Pictures.{Picture}
-use Rattle.isolation_laws.specs.device_rules.specs.Standing.{IsMade}
-use Rattle.isolation_laws.specs.device_rules.proofs.AllLeave.{Behind}
-use Rattle.isolation_laws.specs.device_rules.proofs.Going.{IsGoing}
-use Rattle.isolation_laws.specs.device_rules.proofs.Holding.{made_aligned, made_lies}
-use Rattle.isolation_laws.specs.device_rules.proofs.Homes.{base_same, length_same, region_at_same, regions_same, shareable_same}
-use Rattle.isolation_laws.specs.device_rules.proofs.LeftStanding.{going_rule}
-use Rattle.isolation_laws.specs.device_rules.proofs.Overlaps.{Spread}
+use Rattle.region_config.specs.{Configurations.Configuration, Granules.region_spec, Granules.with_blocks}
+use Rattle.isolation_laws.specs.device_rules.proofs.{AllLeave.Behind, Going.IsGoing, Holding.made_aligned, Holding.made_lies}
+use Rattle.isolation_laws.specs.device_rules.proofs.{Homes.base_same, Homes.length_same, Homes.region_at_same, Homes.regions_same, Homes.shareable_same, LeftStanding.going_rule, ListSteps.each-both}
+use Rattle.isolation_laws.specs.device_rules.{proofs.Overlaps.Spread, specs.Pictures.Picture, specs.Standing.IsMade}
 use Rattle.offer_core.proofs.Completeness.{position_from-none}
 
 -- ---- a row over a list that is spread out

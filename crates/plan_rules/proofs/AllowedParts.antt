@@ -1,53 +1,24 @@
 -- The first three parts of a plan break no rule.
 use Rattle.std.proofs.Common.{◌≡◌, ◌≢◌, ℕ, zero, suc, ◌+◌, ◌*◌, ◌<◌, ◌≤◌, Bool, true, false, not, ◌==◌, List, [], ◌∷◌, ◌++◌, length, map, refl, sym, ap, subst, ◌∙◌, arith}
+use Rattle.std.{proofs.lemmas.List.Filters.length-filter_both, specs.List.AllByRecursion, specs.List.filter, specs.List.range_with_len}
 use Rattle.std.specs.Prelude.{drop, flat_map, if◌then◌else◌, reverse, replicate}
-use Rattle.std.specs.List.{AllByRecursion, filter, range_with_len}
-use Rattle.std.proofs.lemmas.List.Filters.{length-filter_both}
-use Rattle.dcd_base.specs.declared.capacity.Extent.{Extent}
-use Rattle.dcd_base.specs.declared.ids.HostId.{HostId}
-use Rattle.dcd_base.specs.declared.steps.Actor.{Actor}
-use Rattle.dcd_base.specs.declared.steps.LogId.{LogId}
-use Rattle.dcd_base.specs.Words.{is_empty, zero_tag}
+use Rattle.dcd_base.specs.{declared.capacity.Extent.Extent, declared.ids.HostId.HostId, declared.steps.Actor.Actor, declared.steps.LogId.LogId, Words.is_empty, Words.zero_tag, Layouts.spelling}
 use Rattle.event_log.specs.Logs.{records_in}
 use Rattle.event_records.specs.declared.events.Event.{Event}
-use Rattle.dcd_base.specs.Layouts.{spelling}
-use Rattle.host_payloads.specs.HostPayloads.{host_fields}
-use Rattle.fm_payloads.specs.ManagerPayloads.{manager_fields}
-use Rattle.fm_payloads.specs.declared.requests.FmRequest.{FmRequest}
-use Rattle.host_payloads.specs.declared.requests.HostRequest.{HostRequest}
-use Rattle.region_config.specs.Configurations.{Configuration}
-use Rattle.region_config.specs.Granules.{regions_of}
-use Rattle.region_config.specs.Soundness.{IsSound}
-use Rattle.journal_core.specs.Entries.{effects}
-use Rattle.journal_core.specs.declared.acts.Act.{Act}
-use Rattle.journal_core.specs.declared.outcome.Effect.{Effect}
-use Rattle.journal_core.specs.declared.outcome.HeldKind.{HeldKind}
-use Rattle.journal_core.specs.declared.entries.Entry.{Entry}
-use Rattle.isolation_laws.specs.device_rules.specs.Counts.{dirty_count, records_of}
-use Rattle.isolation_laws.specs.device_rules.specs.Hosts.{accepted_of, block_of, held_of, offers_of}
-use Rattle.isolation_laws.specs.device_rules.specs.Legal.{Legal}
-use Rattle.isolation_laws.specs.device_rules.specs.Logs.{log_of}
-use Rattle.isolation_laws.specs.device_rules.specs.Pictures.{picture_of}
-use Rattle.isolation_laws.specs.device_rules.proofs.LegalSound.{legal_is_sound}
-use Rattle.plan_rules.specs.Kept.{begins_in}
-use Rattle.plan_rules.proofs.Emptying.{accepted_few, empties_regions}
-use Rattle.plan_rules.proofs.LettingGo.{clears_whole_logs, lets_offers_go}
-use Rattle.plan_rules.specs.Holding.{Step, extents_in_region, stepped, surplus}
-use Rattle.plan_rules.specs.Listing.{by_host, by_manager, clearing, give_back_surplus, last_bytes, let_go, losing, prepared, refusals, removal, zeroing, refusal_step}
-use Rattle.plan_rules.specs.ActsLeft.{Unbroken, emptying, journal_behind}
-use Rattle.plan_rules.proofs.Acts.{behind_is, refusal_leaves}
-use Rattle.plan_rules.proofs.AllActs.{acts_leave}
+use Rattle.host_payloads.specs.{HostPayloads.host_fields, declared.requests.HostRequest.HostRequest}
+use Rattle.fm_payloads.specs.{ManagerPayloads.manager_fields, declared.requests.FmRequest.FmRequest}
+use Rattle.region_config.specs.{Configurations.Configuration, Granules.regions_of, Soundness.IsSound}
+use Rattle.journal_core.specs.{Entries.effects, declared.acts.Act.Act, declared.outcome.Effect.Effect, declared.outcome.HeldKind.HeldKind, declared.entries.Entry.Entry}
+use Rattle.isolation_laws.specs.device_rules.{proofs.LegalSound.legal_is_sound, specs.Counts.dirty_count, specs.Counts.records_of}
+use Rattle.isolation_laws.specs.device_rules.specs.{Hosts.accepted_of, Hosts.block_of, Hosts.held_of, Hosts.offers_of, Legal.Legal, Logs.log_of, Pictures.picture_of}
+use Rattle.plan_rules.proofs.{Acts.behind_is, Acts.refusal_leaves, AllActs.acts_leave}
 use Rattle.plan_rules.proofs.DeadHosts.{IsReadyToGo, cleared_by, dead_gone, letting_walk, range_all, refused_all, touches_host}
-use Rattle.plan_rules.proofs.Demanded.{IsReadyToLose, losing_walk, touches_pair}
-use Rattle.plan_rules.proofs.PartsGivenBack.{giving_allowed}
-use Rattle.plan_rules.specs.declared.demands.Demand.{Demand}
-use Rattle.plan_rules.specs.declared.demands.Demands.{Demands}
-use Rattle.plan_rules.proofs.RegionsEmptied.{removal_read}
-use Rattle.plan_rules.proofs.Heard.{clear_heard, response_heard}
-use Rattle.plan_rules.proofs.Meeting.{dead_ready, lose_ready}
-use Rattle.plan_rules.proofs.UnbrokenActs.{host_legal, manager_legal, stepped-append}
-use Rattle.plan_rules.proofs.WithoutFault.{IsFaultless}
-use Rattle.plan_rules.proofs.Walks.{AllApart, all_by, both_by}
+use Rattle.plan_rules.proofs.{Demanded.IsReadyToLose, Demanded.losing_walk, Demanded.touches_pair, Emptying.accepted_few, Emptying.empties_regions, Heard.clear_heard, Heard.response_heard}
+use Rattle.plan_rules.proofs.{LettingGo.clears_whole_logs, LettingGo.lets_offers_go, Meeting.dead_ready, Meeting.lose_ready, PartsGivenBack.giving_allowed, RegionsEmptied.removal_read}
+use Rattle.plan_rules.proofs.{UnbrokenActs.host_legal, UnbrokenActs.manager_legal, UnbrokenActs.stepped-append, Walks.AllApart, Walks.all_by, Walks.both_by, WithoutFault.IsFaultless}
+use Rattle.plan_rules.specs.{ActsLeft.Unbroken, ActsLeft.emptying, ActsLeft.journal_behind, Holding.Step, Holding.extents_in_region, Holding.stepped, Holding.surplus, Kept.begins_in}
+use Rattle.plan_rules.specs.declared.demands.{Demand.Demand, Demands.Demands}
+use Rattle.plan_rules.specs.Listing.{by_host, by_manager, clearing, give_back_surplus, last_bytes, let_go, losing, prepared, refusals, removal, zeroing, refusal_step}
 
 -- acts that break no rule, one list behind another
 pub unbroken_both : (c : Configuration) (journal : List Entry) (first more : List Step) → Unbroken c journal first → Unbroken c (stepped c journal first) more → Unbroken c journal (first ++ more)

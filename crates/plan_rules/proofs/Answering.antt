@@ -1,23 +1,14 @@
 -- What a command does whose request breaks no rule.
-use Rattle.std.proofs.Common.{◌≡◌, List, [], None, ap, ◌∙◌}
-use Rattle.std.specs.declared.result.Result.TheVariants.{Ok}
-use Rattle.std.specs.Result.{result_err}
+use Rattle.std.{proofs.Common.◌≡◌, proofs.Common.List, proofs.Common.[], proofs.Common.None, proofs.Common.ap, proofs.Common.◌∙◌, specs.declared.result.Result.TheVariants.Ok, specs.Result.result_err}
 use Rattle.cci_codec.specs.declared.messages.Request.{Request}
-use Rattle.dcd_base.specs.declared.ids.HostId.{HostId}
-use Rattle.dcd_base.specs.declared.steps.Actor.{Actor}
+use Rattle.dcd_base.specs.declared.{ids.HostId.HostId, steps.Actor.Actor}
 use Rattle.dcd_codes.specs.declared.codes.Code.{Code}
-use Rattle.fm_payloads.specs.ManagerPayloads.{manager_request}
-use Rattle.fm_payloads.specs.declared.requests.FmRequest.{FmRequest}
-use Rattle.host_payloads.specs.HostPayloads.{host_request}
-use Rattle.host_payloads.specs.declared.requests.HostRequest.{HostRequest}
+use Rattle.fm_payloads.specs.{ManagerPayloads.manager_request, declared.requests.FmRequest.FmRequest}
+use Rattle.host_payloads.specs.{HostPayloads.host_request, declared.requests.HostRequest.HostRequest}
 use Rattle.region_config.specs.Configurations.{Configuration}
-use Rattle.journal_core.specs.Entries.{effects}
-use Rattle.journal_core.specs.declared.acts.Act.{Act}
-use Rattle.journal_core.specs.declared.entries.Entry.{Entry}
-use Rattle.journal_core.specs.declared.outcome.Effect.{Effect}
+use Rattle.journal_core.specs.{Entries.effects, declared.acts.Act.Act, declared.entries.Entry.Entry, declared.outcome.Effect.Effect}
 use Rattle.isolation_laws.specs.device_rules.specs.Answers.{answer, dropped, effects_with, host_outcome, host_result, host_rule, manager_outcome, manager_result, manager_rule, reply_with, response, unless}
-use Rattle.isolation_laws.specs.device_rules.specs.Outcomes.{Outcome, effects_of}
-use Rattle.isolation_laws.specs.device_rules.specs.Views.{View, view_of}
+use Rattle.isolation_laws.specs.device_rules.specs.{Outcomes.Outcome, Outcomes.effects_of, Views.View, Views.view_of}
 use Rattle.plan_rules.specs.Kept.{Succeeds}
 
 -- it succeeds without a payload, with the effects of what it does

@@ -1,36 +1,19 @@
 -- Extents outside the shareable regions have no open tag, whatever a command does.
 use Rattle.std.proofs.Common.{◌≡◌, ◌⊎◌, ℕ, ◌<◌, Bool, true, false, not, ◌&&◌, ◌||◌, ◌==◌, List, [], ◌∷◌, ◌++◌, length, map, refl, ap, sym, subst, ◌∙◌, inl, inr, arith, append_assoc}
-use Rattle.std.specs.Prelude.{drop, flat_map, if◌then◌else◌}
-use Rattle.std.specs.List.{AllByRecursion, list_all}
+use Rattle.std.{specs.Prelude.drop, specs.Prelude.flat_map, specs.Prelude.if◌then◌else◌, specs.List.AllByRecursion, specs.List.list_all, proofs.lemmas.List.Folds.list_any-append}
 use Rattle.std.proofs.lemmas.Bool.{and_from, cases_Bool, cases_lt, eqb-true, false≢true, false_from_ne_true, not_from_false, or_left, and_parts}
-use Rattle.std.proofs.lemmas.List.Folds.{list_any-append}
-use Rattle.dcd_base.specs.declared.capacity.Extent.{Extent}
-use Rattle.dcd_base.specs.declared.capacity.Tag.{Tag}
-use Rattle.dcd_base.specs.declared.ids.HostId.{HostId}
-use Rattle.dcd_base.specs.declared.media.Run.{Run}
-use Rattle.dcd_base.specs.Words.{has_tag, is_zero_tag, same_tag}
+use Rattle.dcd_base.specs.{declared.capacity.Extent.Extent, declared.capacity.Tag.Tag, declared.ids.HostId.HostId, declared.media.Run.Run, Words.has_tag, Words.is_zero_tag, Words.same_tag}
 use Rattle.extent_list.specs.ExtentLists.{cut, has_extent_of, is_in, lies_in, marked}
-use Rattle.region_config.specs.Configurations.{Configuration}
-use Rattle.region_config.specs.Granules.{region_spec}
-use Rattle.region_config.specs.Soundness.{IsSound}
-use Rattle.media_map.specs.Places.{bytes_of_run, region_at, run_of, start_of}
-use Rattle.media_map.proofs.PlaceLemmas.{has}
-use Rattle.media_map.proofs.RunLemmas.{region_at_is}
+use Rattle.region_config.specs.{Configurations.Configuration, Granules.region_spec, Soundness.IsSound}
+use Rattle.media_map.{specs.Places.bytes_of_run, specs.Places.region_at, specs.Places.run_of, specs.Places.start_of, proofs.PlaceLemmas.has, proofs.RunLemmas.region_at_is}
 use Rattle.journal_core.specs.declared.outcome.Effect.{Effect}
-use Rattle.isolation_laws.specs.device_rules.specs.Outcomes.{Outcome, effects_of, ended}
-use Rattle.isolation_laws.specs.device_rules.specs.ReleaseOutcomes.{leaves, removals, soils}
+use Rattle.isolation_laws.specs.device_rules.proofs.{CutSteps.lies, Holding.no_extents, Holding.present_whole, Homes.made_region}
 use Rattle.isolation_laws.specs.device_rules.proofs.ListSteps.{each-append, each-at, each-both, each-change, each-map, flat-push}
-use Rattle.isolation_laws.specs.device_rules.proofs.TagSteps.{open_before, same_tag-is}
+use Rattle.isolation_laws.specs.device_rules.proofs.{OneAnswer.IsAnswer, OneAnswer.answer_picture, OneAnswer.q, OneOffer.IsFresh, OneOffer.IsOffer, OneOffer.IsShared, Pictures.picture-outcome}
+use Rattle.isolation_laws.specs.device_rules.proofs.{Quiet.is_quiet, Quiet.quiet_front, Settling.each-tagged, Settling.host_keeps, Settling.is_host, TagSteps.open_before, TagSteps.same_tag-is}
+use Rattle.isolation_laws.specs.device_rules.specs.Outcomes.{Outcome, effects_of, ended}
 use Rattle.isolation_laws.specs.device_rules.specs.Pictures.{Picture, extents_at, is_with_a_host, lives, picture_after, picture_of}
-use Rattle.isolation_laws.specs.device_rules.specs.Standing.{IsHome, IsMade, Sound}
-use Rattle.isolation_laws.specs.device_rules.proofs.CutSteps.{lies}
-use Rattle.isolation_laws.specs.device_rules.proofs.Holding.{no_extents, present_whole}
-use Rattle.isolation_laws.specs.device_rules.proofs.OneAnswer.{IsAnswer, answer_picture, q}
-use Rattle.isolation_laws.specs.device_rules.proofs.OneOffer.{IsFresh, IsOffer, IsShared}
-use Rattle.isolation_laws.specs.device_rules.proofs.Pictures.{picture-outcome}
-use Rattle.isolation_laws.specs.device_rules.proofs.Quiet.{is_quiet, quiet_front}
-use Rattle.isolation_laws.specs.device_rules.proofs.Settling.{each-tagged, host_keeps, is_host}
-use Rattle.isolation_laws.specs.device_rules.proofs.Homes.{made_region}
+use Rattle.isolation_laws.specs.device_rules.specs.{ReleaseOutcomes.leaves, ReleaseOutcomes.removals, ReleaseOutcomes.soils, Standing.IsHome, Standing.IsMade, Standing.Sound}
 use Rattle.plan_rules.proofs.Parts.{ArePartsOf, cut_parts, is_part, is_part_of, marked_part, parts_behind, parts_in_front, parts_join, parts_self, parts_then}
 
 abbrev pub IsClosed : Configuration → Picture → HostId → Extent → Type 0

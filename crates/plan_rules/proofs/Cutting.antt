@@ -1,12 +1,10 @@
 -- What is left of a list once extents of it are cut out.
 use Rattle.std.proofs.Common.{◌≡◌, ℕ, ◌+◌, ◌<◌, Bool, true, false, not, List, [], ◌∷◌, ◌++◌, refl, ap, sym, ◌∙◌, inl, inr, arith, append_assoc, leb, ltb}
-use Rattle.std.specs.List.{AllByRecursion, filter}
 use Rattle.std.proofs.lemmas.Bool.{and_from, cases_Bool, false≢true, false_from_ne_true, le-leb, le-ltb, lt-ltb}
+use Rattle.std.specs.List.{AllByRecursion, filter}
 use Rattle.dcd_base.specs.declared.capacity.Extent.{Extent}
 use Rattle.extent_list.specs.ExtentLists.{cut, cut_all, has_range, lies_in, overlaps, piece}
-use Rattle.isolation_laws.specs.device_rules.proofs.ListSteps.{each-append, each-both}
-use Rattle.isolation_laws.specs.device_rules.proofs.AllLeave.{Behind}
-use Rattle.isolation_laws.specs.device_rules.proofs.CutSteps.{lies}
+use Rattle.isolation_laws.specs.device_rules.proofs.{ListSteps.each-append, ListSteps.each-both, AllLeave.Behind, CutSteps.lies}
 
 -- no extent lies in one before it
 abbrev pub Outside : List Extent → Type 0

@@ -1,32 +1,20 @@
 -- The first part of a plan: each dead host lets all go, and everybody else keeps what it has.
 use Rattle.std.proofs.Common.{◌≡◌, ◌≢◌, ℕ, zero, suc, ◌+◌, ◌<◌, ◌≤◌, false, ◌==◌, List, [], ◌∷◌, ◌++◌, length, map, refl, sym, ap, subst, ◌∙◌, inl, inr, arith}
+use Rattle.std.{proofs.lemmas.Bool.cases_eq, specs.List.AllByRecursion, specs.List.filter, specs.List.range_with_len}
 use Rattle.std.specs.Prelude.{drop, flat_map, if◌then◌else◌, replicate}
-use Rattle.std.specs.List.{AllByRecursion, filter, range_with_len}
-use Rattle.std.proofs.lemmas.Bool.{cases_eq}
-use Rattle.dcd_base.specs.declared.capacity.Extent.{Extent}
-use Rattle.dcd_base.specs.declared.ids.HostId.{HostId}
-use Rattle.dcd_base.specs.declared.steps.LogId.{LogId}
-use Rattle.dcd_base.specs.Words.{is_empty, zero_tag}
+use Rattle.dcd_base.specs.{declared.capacity.Extent.Extent, declared.ids.HostId.HostId, declared.steps.LogId.LogId, Words.is_empty, Words.zero_tag}
 use Rattle.event_records.specs.declared.events.Event.{Event}
 use Rattle.fm_payloads.specs.declared.requests.FmRequest.{FmRequest}
 use Rattle.host_payloads.specs.declared.requests.HostRequest.{HostRequest}
-use Rattle.region_config.specs.Configurations.{Configuration}
-use Rattle.region_config.specs.Granules.{regions_of}
-use Rattle.region_config.specs.Soundness.{IsSound}
+use Rattle.region_config.specs.{Configurations.Configuration, Granules.regions_of, Soundness.IsSound}
 use Rattle.media_map.specs.Places.{region_at}
-use Rattle.journal_core.specs.Entries.{effects}
-use Rattle.journal_core.specs.declared.outcome.Effect.{Effect}
-use Rattle.journal_core.specs.declared.outcome.HeldKind.{HeldKind}
-use Rattle.journal_core.specs.declared.entries.Entry.{Entry}
-use Rattle.isolation_laws.specs.device_rules.specs.Counts.{records_of}
-use Rattle.isolation_laws.specs.device_rules.specs.Hosts.{held_of, offers_of}
-use Rattle.isolation_laws.specs.device_rules.specs.Legal.{Legal}
-use Rattle.plan_rules.specs.Holding.{Step, extents_in_region, stepped}
-use Rattle.plan_rules.specs.Listing.{by_host, by_manager, clearing, let_go, refusals, removal, refusal_step}
-use Rattle.plan_rules.specs.ActsLeft.{ActsLeaveAll, Unbroken, emptying, journal_behind}
+use Rattle.journal_core.specs.{Entries.effects, declared.outcome.Effect.Effect, declared.outcome.HeldKind.HeldKind, declared.entries.Entry.Entry}
+use Rattle.isolation_laws.specs.device_rules.specs.{Counts.records_of, Hosts.held_of, Hosts.offers_of, Legal.Legal}
 use Rattle.plan_rules.proofs.Stillness.{Still, still_all, still_elsewhere, still_others, still_self, still_then}
 use Rattle.plan_rules.proofs.UnbrokenActs.{host_legal, manager_legal, stepped-append, unbroken_parts}
 use Rattle.plan_rules.proofs.Walks.{AllApart, ApartFrom, IsWalk, LeavesAll, LeavesItem, walk, walk_each, walked}
+use Rattle.plan_rules.specs.{ActsLeft.ActsLeaveAll, ActsLeft.Unbroken, ActsLeft.emptying, ActsLeft.journal_behind, Holding.Step, Holding.extents_in_region, Holding.stepped}
+use Rattle.plan_rules.specs.Listing.{by_host, by_manager, clearing, let_go, refusals, removal, refusal_step}
 
 -- a host touches all its regions
 abbrev pub touches_host : HostId → HostId → ℕ → Type 0

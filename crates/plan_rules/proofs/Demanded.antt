@@ -1,30 +1,18 @@
 -- The second and the fourth part of a plan: who has too much gives back, and who has too little is provided.
 use Rattle.std.proofs.Common.{◌≡◌, ℕ, Bool, true, ◌+◌, ◌-◌, ◌*◌, ◌/◌, ◌^◌, ◌<◌, false, ◌==◌, List, [], ◌∷◌, ◌++◌, refl, sym, ap, subst, ◌∙◌, arith}
-use Rattle.std.specs.Prelude.{flat_map, if◌then◌else◌, reverse, sum_by}
-use Rattle.std.specs.List.{AllByRecursion}
-use Rattle.std.proofs.lemmas.Bool.{eqb-false, eqb-true}
-use Rattle.dcd_base.specs.declared.capacity.Extent.{Extent}
-use Rattle.dcd_base.specs.declared.ids.HostId.{HostId}
-use Rattle.dcd_base.specs.Words.{zero_tag}
+use Rattle.std.{specs.Prelude.flat_map, specs.Prelude.if◌then◌else◌, specs.Prelude.reverse, specs.Prelude.sum_by, specs.List.AllByRecursion, proofs.lemmas.Bool.eqb-false, proofs.lemmas.Bool.eqb-true}
+use Rattle.dcd_base.specs.{declared.capacity.Extent.Extent, declared.ids.HostId.HostId, Words.zero_tag}
 use Rattle.fm_payloads.specs.declared.requests.FmRequest.{FmRequest}
 use Rattle.host_payloads.specs.declared.requests.HostRequest.{HostRequest}
-use Rattle.region_config.specs.Configurations.{Configuration}
-use Rattle.region_config.specs.Soundness.{IsSound}
-use Rattle.journal_core.specs.Entries.{effects}
-use Rattle.journal_core.specs.declared.outcome.Effect.{Effect}
-use Rattle.journal_core.specs.declared.outcome.HeldKind.{HeldKind}
-use Rattle.journal_core.specs.declared.entries.Entry.{Entry}
-use Rattle.isolation_laws.specs.device_rules.specs.Hosts.{block_of, held_of, offers_of}
-use Rattle.isolation_laws.specs.device_rules.specs.Legal.{Legal}
-use Rattle.plan_rules.specs.declared.demands.Demand.{Demand}
-use Rattle.plan_rules.specs.Holding.{Step, blocks_held, extents_in_region, gain, stepped, surplus}
-use Rattle.plan_rules.specs.Listing.{by_host, by_manager, gained, gaining, give_back_surplus, last_bytes, offer_taken}
-use Rattle.plan_rules.specs.Meeting.{HoldsStill}
-use Rattle.plan_rules.specs.Kept.{bytes_in}
-use Rattle.plan_rules.specs.ActsLeft.{ActsLeaveAll, ChangesOnly, IsPlain, Unbroken, giving_back, journal_behind, offering, providing}
-use Rattle.plan_rules.proofs.Stillness.{Still, still_elsewhere, still_self}
-use Rattle.plan_rules.proofs.UnbrokenActs.{host_legal, manager_legal}
+use Rattle.region_config.specs.{Configurations.Configuration, Soundness.IsSound}
+use Rattle.journal_core.specs.{Entries.effects, declared.outcome.Effect.Effect, declared.outcome.HeldKind.HeldKind, declared.entries.Entry.Entry}
+use Rattle.isolation_laws.specs.device_rules.specs.{Hosts.block_of, Hosts.held_of, Hosts.offers_of, Legal.Legal}
+use Rattle.plan_rules.proofs.{Stillness.Still, Stillness.still_elsewhere, Stillness.still_self, UnbrokenActs.host_legal, UnbrokenActs.manager_legal}
 use Rattle.plan_rules.proofs.Walks.{AllApart, IsWalk, LeavesAll, LeavesItem, walk, walk_each, walked}
+use Rattle.plan_rules.specs.ActsLeft.{ActsLeaveAll, ChangesOnly, IsPlain, Unbroken, giving_back, journal_behind, offering, providing}
+use Rattle.plan_rules.specs.{Holding.Step, Holding.blocks_held, Holding.extents_in_region, Holding.gain, Holding.stepped, Holding.surplus, Kept.bytes_in}
+use Rattle.plan_rules.specs.{Listing.by_host, Listing.by_manager, Listing.gained, Listing.gaining, Listing.give_back_surplus, Listing.last_bytes, Listing.offer_taken, Meeting.HoldsStill}
+use Rattle.plan_rules.specs.declared.demands.Demand.{Demand}
 
 -- a demand touches its host's part of its region
 abbrev pub touches_pair : Demand → HostId → ℕ → Type 0

@@ -1,60 +1,30 @@
 -- A removal by force of all extents of a host in a region is never refused, and leaves all others.
+use Rattle.plan_rules.proofs.{Allowed.each_may_go, Answering.manager_does, ClosedTags.AreClosed, ClosedTags.leaves_are, Cutting.Outside, Cutting.cut_all_those, Cutting.outside_from}
 use Rattle.plan_rules.proofs.Filters.{each_filtered, fewer, none_stay, others_stay}
+use Rattle.plan_rules.proofs.Keeping.{leaves_held, leaves_host, others_kept, outcome_accepted, outcome_held, outcome_offers}
+use Rattle.plan_rules.proofs.{KeptLogs.log_grows, KeptLogs.log_kept, KeptLogs.other_log, KeptLogs.records_more, PrivateTags.legal_is_closed, WholeTags.region_complete}
+use Rattle.plan_rules.specs.{Kept.KeepsOthers, Kept.begins_in, LettingGo.EmptiesRegions}
 use Rattle.std.proofs.Common.{◌≡◌, ℕ, ◌+◌, ◌<◌, ◌≤◌, Bool, true, false, not, List, [], ◌∷◌, ◌++◌, length, map, None, refl, ap, sym, subst, ◌∙◌, arith, leb, ltb, length-append}
-use Rattle.std.specs.Prelude.{fold, flat_map, Option}
-use Rattle.std.specs.List.{AllByRecursion, filter, list_all}
-use Rattle.std.proofs.lemmas.Bool.{eqb-true, le-ltb, lt-leb, ne_eqb}
-use Rattle.std.proofs.lemmas.List.Concat.{length-flat_map}
-use Rattle.dcd_base.specs.Limits.{extents_listed, extents_supported}
-use Rattle.dcd_base.specs.Words.{◌or◌, is_empty}
-use Rattle.dcd_base.specs.declared.capacity.Extent.{Extent}
-use Rattle.dcd_base.specs.declared.ids.HostId.{HostId}
-use Rattle.dcd_base.specs.declared.steps.LogId.{LogId}
-use Rattle.dcd_codes.specs.Rules.{◌breaks◌}
-use Rattle.dcd_codes.specs.declared.rules.Rule.{Rule}
+use Rattle.std.proofs.lemmas.{Bool.eqb-true, Bool.le-ltb, Bool.lt-leb, Bool.ne_eqb, List.Concat.length-flat_map}
+use Rattle.std.specs.{List.AllByRecursion, List.filter, List.list_all, Prelude.fold, Prelude.flat_map, Prelude.Option}
+use Rattle.dcd_base.specs.{Limits.extents_listed, Limits.extents_supported, Words.◌or◌, Words.is_empty, declared.capacity.Extent.Extent, declared.ids.HostId.HostId, declared.steps.LogId.LogId}
+use Rattle.dcd_codes.specs.{Rules.◌breaks◌, declared.rules.Rule.Rule}
 use Rattle.event_log.specs.Logs.{Log, records_in, room_in}
-use Rattle.event_records.specs.declared.events.Event.{Event}
-use Rattle.event_records.specs.declared.events.EventKind.{EventKind}
-use Rattle.isolation_laws.specs.device_rules.proofs.LegalLogs.{legal_logs}
-use Rattle.isolation_laws.specs.device_rules.proofs.LogHistories.{leaves_logs}
-use Rattle.isolation_laws.specs.device_rules.proofs.LogOutcomes.{length-log_records}
-use Rattle.plan_rules.proofs.KeptLogs.{log_grows, log_kept, other_log, records_more}
+use Rattle.event_records.specs.declared.events.{Event.Event, EventKind.EventKind}
+use Rattle.isolation_laws.{proofs.RemovalViews.no_block as leaves_blocks, specs.device_rules.proofs.AllLeave.all_leave}
+use Rattle.isolation_laws.specs.device_rules.proofs.{Going.all_behind, Going.going_ready, Going.some_going, Going.some_owned, Homes.regions_same, Leaving.map_passes, LegalLogs.legal_logs}
+use Rattle.isolation_laws.specs.device_rules.proofs.{LegalSound.legal_is_sound, ListSteps.each-all, ListSteps.each-change, LogHistories.leaves_logs, LogOutcomes.length-log_records}
+use Rattle.isolation_laws.specs.device_rules.proofs.OneLeave.{accepted_made, accepted_once, loose}
+use Rattle.isolation_laws.specs.device_rules.specs.{Hosts.accepted_after, Hosts.accepted_of, Hosts.offers_after, Hosts.offers_of, Legal.Legal, Logs.log_of}
+use Rattle.isolation_laws.specs.device_rules.specs.{Outcomes.Outcome, Outcomes.records_of_extents, Pictures.Picture, Pictures.picture_of}
+use Rattle.isolation_laws.specs.device_rules.specs.{ReleaseOutcomes.removals, ReleaseOutcomes.remove_outcome, ReleaseOutcomes.remove_rule, Standing.IsMade, Standing.Sound, Standing.Stands}
+use Rattle.isolation_laws.specs.device_rules.specs.Views.{view_after, view_of}
 use Rattle.extent_list.specs.ExtentLists.{count_in, cut_all, marked, owner_of}
 use Rattle.fm_payloads.specs.declared.requests.FmRequest.{FmRequest}
 use Rattle.media_map.specs.Places.{region_at, run_of}
-use Rattle.region_config.specs.Configurations.{Configuration}
-use Rattle.region_config.specs.Granules.{region_spec, with_blocks}
-use Rattle.region_config.specs.Soundness.{IsSound}
-use Rattle.release_core.specs.Leaving.{count_after}
-use Rattle.release_core.specs.Removals.{prescribed_removal_rule}
-use Rattle.journal_core.specs.Entries.{effects}
-use Rattle.journal_core.specs.declared.entries.Entry.{Entry}
-use Rattle.journal_core.specs.declared.outcome.Effect.{Effect}
-use Rattle.isolation_laws.specs.device_rules.specs.Hosts.{accepted_after, accepted_of, offers_after, offers_of}
-use Rattle.isolation_laws.specs.device_rules.specs.Legal.{Legal}
-use Rattle.isolation_laws.specs.device_rules.specs.Logs.{log_of}
-use Rattle.isolation_laws.specs.device_rules.specs.Outcomes.{Outcome, records_of_extents}
-use Rattle.isolation_laws.specs.device_rules.specs.ReleaseOutcomes.{removals, remove_outcome, remove_rule}
-use Rattle.isolation_laws.specs.device_rules.specs.Views.{view_after, view_of}
-use Rattle.isolation_laws.specs.device_rules.proofs.Leaving.{map_passes}
-use Rattle.isolation_laws.specs.device_rules.proofs.ListSteps.{each-all, each-change}
-use Rattle.isolation_laws.specs.device_rules.specs.Pictures.{Picture, picture_of}
-use Rattle.isolation_laws.specs.device_rules.specs.Standing.{IsMade, Sound, Stands}
-use Rattle.isolation_laws.specs.device_rules.proofs.AllLeave.{all_leave}
-use Rattle.isolation_laws.specs.device_rules.proofs.Going.{all_behind, going_ready, some_going, some_owned}
-use Rattle.isolation_laws.specs.device_rules.proofs.Homes.{regions_same}
-use Rattle.isolation_laws.specs.device_rules.proofs.LegalSound.{legal_is_sound}
-use Rattle.isolation_laws.specs.device_rules.proofs.OneLeave.{accepted_made, accepted_once, loose}
-use Rattle.plan_rules.specs.Kept.{KeepsOthers, begins_in}
-use Rattle.plan_rules.specs.LettingGo.{EmptiesRegions}
-use Rattle.plan_rules.proofs.Allowed.{each_may_go}
-use Rattle.plan_rules.proofs.Answering.{manager_does}
-use Rattle.plan_rules.proofs.ClosedTags.{AreClosed, leaves_are}
-use Rattle.plan_rules.proofs.Cutting.{Outside, cut_all_those, outside_from}
-use Rattle.plan_rules.proofs.Keeping.{leaves_held, leaves_host, others_kept, outcome_accepted, outcome_held, outcome_offers}
-use Rattle.isolation_laws.proofs.RemovalViews.{no_block as leaves_blocks}
-use Rattle.plan_rules.proofs.PrivateTags.{legal_is_closed}
-use Rattle.plan_rules.proofs.WholeTags.{region_complete}
+use Rattle.region_config.specs.{Configurations.Configuration, Granules.region_spec, Granules.with_blocks, Soundness.IsSound}
+use Rattle.release_core.specs.{Leaving.count_after, Removals.prescribed_removal_rule}
+use Rattle.journal_core.specs.{Entries.effects, declared.entries.Entry.Entry, declared.outcome.Effect.Effect}
 
 pub unbroken : (b : Bool) (rule : Rule) → b ≡ false → (b breaks rule) ≡ None
 unbroken b rule e = rw e refl

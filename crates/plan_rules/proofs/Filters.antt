@@ -1,7 +1,6 @@
 -- What a filter keeps, and how many.
 use Rattle.std.proofs.Common.{◌≡◌, ◌≤◌, Bool, true, false, not, ◌&&◌, List, [], ◌∷◌, length, refl, ap, inl, inr, arith}
-use Rattle.std.specs.List.{AllByRecursion, filter}
-use Rattle.std.proofs.lemmas.Bool.{cases_Bool}
+use Rattle.std.{specs.List.AllByRecursion, specs.List.filter, proofs.lemmas.Bool.cases_Bool}
 use Rattle.isolation_laws.specs.device_rules.proofs.ListSteps.{many}
 
 module _ {X : Type 0} where

@@ -1,19 +1,13 @@
 -- How many blocks of an area are free once the lowest of them are chosen.
 use Rattle.plan_rules.proofs.Filters.{filter_both}
 use Rattle.std.proofs.Common.{◌≡◌, ℕ, zero, suc, ◌+◌, ◌*◌, ◌<◌, ◌≤◌, Bool, true, false, not, ◌&&◌, ◌||◌, ◌==◌, List, [], ◌∷◌, length, map, refl, ap, sym, ◌∙◌, inl, inr, arith, add-mul, length-drop, leb, ltb, mul-le-mul_right, zero-mul}
-use Rattle.std.specs.Prelude.{drop, if◌then◌else◌, sum_by, take}
-use Rattle.std.proofs.lemmas.List.{length-take-le}
-use Rattle.std.proofs.lemmas.List.Sums.{sum_by-cons}
-use Rattle.std.specs.List.{AllByRecursion, filter, list_all, list_any, range_with_len}
-use Rattle.std.proofs.lemmas.Bool.{cases_lt, eq-eqb, le-leb, le-ltb, lt-leb, lt-ltb, ne_eqb}
-use Rattle.dcd_base.specs.Words.{has_in_runs}
-use Rattle.dcd_base.specs.declared.media.Run.{Run}
-use Rattle.granule_map.specs.Blocks.{block_count}
-use Rattle.granule_map.specs.Choices.{joined, joined_onto, passing}
-use Rattle.selection.specs.Selections.{always_together, free_blocks, free_runs, granules_of_blocks, is_free_block}
+use Rattle.std.proofs.lemmas.{Bool.cases_lt, Bool.eq-eqb, Bool.le-leb, Bool.le-ltb, Bool.lt-leb, Bool.lt-ltb, Bool.ne_eqb, List.length-take-le, List.Sums.sum_by-cons}
+use Rattle.std.specs.{List.AllByRecursion, List.filter, List.list_all, List.list_any, List.range_with_len, Prelude.drop, Prelude.if◌then◌else◌, Prelude.sum_by, Prelude.take}
+use Rattle.dcd_base.specs.{Words.has_in_runs, declared.media.Run.Run}
+use Rattle.granule_map.specs.{Blocks.block_count, Choices.joined, Choices.joined_onto, Choices.passing}
 use Rattle.selection.proofs.Chosen.{NumbersBetween, filter_between}
-use Rattle.isolation_laws.specs.device_rules.proofs.RunEffects.{run_from}
-use Rattle.isolation_laws.specs.device_rules.proofs.JoinedRuns.{joined_has}
+use Rattle.selection.specs.Selections.{always_together, free_blocks, free_runs, granules_of_blocks, is_free_block}
+use Rattle.isolation_laws.specs.device_rules.proofs.{RunEffects.run_from, JoinedRuns.joined_has}
 
 -- ---- tests over a range
 

@@ -1,69 +1,36 @@
 -- An offer of free blocks leaves so many fewer free blocks of its region, and as many of each other region.
-use Rattle.plan_rules.proofs.Filters.{keeps_all, keeps_none}
+use Rattle.plan_rules.proofs.{Answering.manager_does, Filters.keeps_all, Filters.keeps_none}
+use Rattle.plan_rules.proofs.FreeBlocks.{all_agree, blocks_gone, filter_agree, free_then, granules_in, sum_runs}
+use Rattle.plan_rules.proofs.Keeping.{others_kept, outcome_accepted, outcome_blocks, outcome_held, outcome_holds, outcome_offers}
+use Rattle.plan_rules.{proofs.KeptLogs.log_kept, proofs.KeptLogs.other_log, proofs.WholeOffers.status_told, specs.Kept.KeepsOthers, specs.Kept.begins_in}
+use Rattle.plan_rules.specs.Taking.{IsOfferedFree, OffersFreeBlocks, blocks_free_now, free_offer_of}
 use Rattle.std.proofs.Common.{◌≡◌, ◌≢◌, ℕ, suc, ◌+◌, ◌*◌, ◌/◌, ◌%◌, ◌<◌, ◌≤◌, Bool, true, false, not, ◌&&◌, ◌||◌, ◌==◌, List, [], ◌∷◌, ◌++◌, length, map, None, Some, refl, ap, sym, subst, ◌∙◌, inl, inr, arith, div-add-mod', ltb}
-use Rattle.std.proofs.Math.Nat.{add-mul, mul_assoc, mul-le-mul_right, zero-mul}
-use Rattle.std.specs.Prelude.{if◌then◌else◌, flat_map, Option, sum_by}
-use Rattle.std.specs.Result.{result_err}
-use Rattle.std.specs.List.{AllByRecursion, list_any}
-use Rattle.std.specs.declared.result.Result.TheVariants.{Ok}
+use Rattle.std.proofs.{Math.Nat.add-mul, Math.Nat.mul_assoc, Math.Nat.mul-le-mul_right, Math.Nat.zero-mul, lemmas.List.Sums.sum_by-cons, lemmas.Option.none-some}
+use Rattle.std.specs.{List.AllByRecursion, List.list_any, Prelude.if◌then◌else◌, Prelude.flat_map, Prelude.Option, Prelude.sum_by, Result.result_err, declared.result.Result.TheVariants.Ok}
 use Rattle.std.proofs.lemmas.Bool.{cases_Bool, cases_eq, eq-eqb, eqb-true, false≢true, false_from_ne_true, ltb-false, ne_eqb, not-false, or_parts}
-use Rattle.std.proofs.lemmas.List.Sums.{sum_by-cons}
-use Rattle.std.proofs.lemmas.Option.{none-some}
 use Rattle.cci_codec.specs.declared.messages.Request.{Request}
-use Rattle.dcd_base.specs.Words.{has_granule, has_in_runs, has_tag, same_tag, zero_tag}
-use Rattle.dcd_base.specs.declared.capacity.Extent.{Extent}
-use Rattle.dcd_base.specs.declared.capacity.Tag.{Tag}
-use Rattle.dcd_base.specs.declared.ids.HostId.{HostId}
-use Rattle.dcd_base.specs.declared.media.Run.{Run}
-use Rattle.dcd_codes.specs.Rules.{◌breaks◌}
-use Rattle.dcd_codes.specs.declared.rules.Rule.{Rule}
+use Rattle.dcd_base.specs.{Words.has_granule, Words.has_in_runs, Words.has_tag, Words.same_tag, Words.zero_tag, declared.capacity.Extent.Extent, declared.capacity.Tag.Tag, declared.ids.HostId.HostId}
+use Rattle.dcd_base.specs.declared.{media.Run.Run, steps.LogId.LogId}
+use Rattle.dcd_codes.specs.{Rules.◌breaks◌, declared.rules.Rule.Rule}
 use Rattle.extent_list.specs.ExtentLists.{has_extent_of}
-use Rattle.fm_payloads.specs.ManagerPayloads.{manager_request}
-use Rattle.fm_payloads.specs.declared.requests.FmRequest.{FmRequest}
+use Rattle.fm_payloads.specs.{ManagerPayloads.manager_request, declared.requests.FmRequest.FmRequest}
 use Rattle.granule_map.specs.Blocks.{block_count}
 use Rattle.media_map.specs.Places.{extent_of, region_at, run_of}
-use Rattle.region_config.proofs.GranuleLemmas.{region_is}
-use Rattle.region_config.proofs.PresentBlocks.{granules_in-with_blocks, region_spec-with_blocks}
-use Rattle.region_config.specs.Configurations.{Configuration}
+use Rattle.region_config.{proofs.GranuleLemmas.region_is, proofs.PresentBlocks.granules_in-with_blocks, proofs.PresentBlocks.region_spec-with_blocks, specs.Configurations.Configuration}
 use Rattle.region_config.specs.Granules.{first_granule, granule_size, hosts_of, is_supported, region_granules, region_of, region_spec, with_blocks}
 use Rattle.region_config.specs.Soundness.{IsSound}
-use Rattle.selection.specs.Selections.{free_runs, is_free_block, too_few_free}
-use Rattle.journal_core.specs.Entries.{effects}
-use Rattle.journal_core.specs.Holders.{holds}
-use Rattle.journal_core.specs.declared.entries.Entry.{Entry}
-use Rattle.journal_core.specs.declared.outcome.Effect.{Effect}
-use Rattle.isolation_laws.specs.device_rules.specs.Adding.{add_outcome, add_rule, area_of, extents_of, is_free_now, per_block, present, region_free_blocks}
-use Rattle.isolation_laws.specs.device_rules.specs.Answers.{manager_outcome, manager_result, manager_rule, unless}
-use Rattle.isolation_laws.specs.device_rules.specs.Hosts.{accepted_of, block_of, offers_of}
-use Rattle.isolation_laws.specs.device_rules.specs.Legal.{Legal}
-use Rattle.isolation_laws.specs.device_rules.specs.Outcomes.{Outcome, effects_of}
-use Rattle.isolation_laws.specs.device_rules.specs.Tags.{is_free, last_offer, open_tags, status, tag_runs}
-use Rattle.isolation_laws.specs.device_rules.specs.Views.{view_of}
-use Rattle.isolation_laws.specs.device_rules.proofs.HostSearches.{any_none}
-use Rattle.isolation_laws.specs.device_rules.proofs.ListSteps.{any-map, each-at, each-change, many, many-any, many-append}
-use Rattle.isolation_laws.specs.device_rules.proofs.RunEffects.{in_extents}
-use Rattle.isolation_laws.specs.device_rules.proofs.TagSteps.{same_tag-is}
-use Rattle.isolation_laws.specs.device_rules.specs.Pictures.{Picture, picture_of}
-use Rattle.isolation_laws.specs.device_rules.specs.Standing.{IsMade, Sound, Stands}
+use Rattle.selection.{specs.Selections.free_runs, specs.Selections.is_free_block, specs.Selections.too_few_free, proofs.Prescribed.neither}
+use Rattle.journal_core.specs.{Entries.effects, Holders.holds, declared.entries.Entry.Entry, declared.outcome.Effect.Effect}
 use Rattle.isolation_laws.specs.device_rules.proofs.AddChoices.{marked_from, marked_runs, reach_runs, runs_back}
-use Rattle.isolation_laws.specs.device_rules.proofs.Adding.{IsAdded, IsRow, added, row_of}
-use Rattle.isolation_laws.specs.device_rules.proofs.BlockRuns.{IsBlockRun, free_block_runs}
-use Rattle.isolation_laws.specs.device_rules.proofs.Holding.{present_whole}
+use Rattle.isolation_laws.specs.device_rules.proofs.{Adding.IsAdded, Adding.IsRow, Adding.added, Adding.row_of, BlockRuns.IsBlockRun, BlockRuns.free_block_runs, Holding.present_whole}
 use Rattle.isolation_laws.specs.device_rules.proofs.Homes.{bytes_same, first_same, made_of_region, made_region, size_same, supported_some, supported_whole}
-use Rattle.isolation_laws.specs.device_rules.proofs.LegalSound.{legal_is_sound}
-use Rattle.isolation_laws.specs.device_rules.proofs.OneOffer.{reaches}
-use Rattle.isolation_laws.specs.device_rules.proofs.Overlaps.{not_broken}
-use Rattle.selection.proofs.Prescribed.{neither}
-use Rattle.isolation_laws.specs.device_rules.proofs.StatusOffers.{status-not_offered, status-offered}
-use Rattle.plan_rules.specs.Kept.{KeepsOthers, begins_in}
-use Rattle.plan_rules.specs.Taking.{IsOfferedFree, OffersFreeBlocks, blocks_free_now, free_offer_of}
-use Rattle.plan_rules.proofs.Answering.{manager_does}
-use Rattle.plan_rules.proofs.FreeBlocks.{all_agree, blocks_gone, filter_agree, free_then, granules_in, sum_runs}
-use Rattle.dcd_base.specs.declared.steps.LogId.{LogId}
-use Rattle.isolation_laws.specs.device_rules.specs.Logs.{log_of}
-use Rattle.plan_rules.proofs.KeptLogs.{log_kept, other_log}
-use Rattle.plan_rules.proofs.Keeping.{others_kept, outcome_accepted, outcome_blocks, outcome_held, outcome_holds, outcome_offers}
-use Rattle.plan_rules.proofs.WholeOffers.{status_told}
+use Rattle.isolation_laws.specs.device_rules.proofs.{HostSearches.any_none, LegalSound.legal_is_sound}
+use Rattle.isolation_laws.specs.device_rules.proofs.{ListSteps.any-map, ListSteps.each-at, ListSteps.each-change, ListSteps.many, ListSteps.many-any, ListSteps.many-append, OneOffer.reaches}
+use Rattle.isolation_laws.specs.device_rules.proofs.{Overlaps.not_broken, RunEffects.in_extents, StatusOffers.status-not_offered, StatusOffers.status-offered, TagSteps.same_tag-is}
+use Rattle.isolation_laws.specs.device_rules.specs.Adding.{add_outcome, add_rule, area_of, extents_of, is_free_now, per_block, present, region_free_blocks}
+use Rattle.isolation_laws.specs.device_rules.specs.{Answers.manager_outcome, Answers.manager_result, Answers.manager_rule, Answers.unless, Hosts.accepted_of, Hosts.block_of, Hosts.offers_of}
+use Rattle.isolation_laws.specs.device_rules.specs.{Legal.Legal, Logs.log_of, Outcomes.Outcome, Outcomes.effects_of, Pictures.Picture, Pictures.picture_of}
+use Rattle.isolation_laws.specs.device_rules.specs.{Standing.IsMade, Standing.Sound, Standing.Stands, Tags.is_free, Tags.last_offer, Tags.open_tags, Tags.status, Tags.tag_runs, Views.view_of}
 
 -- ---- small steps
 

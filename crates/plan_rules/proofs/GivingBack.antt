@@ -1,62 +1,29 @@
 -- A host that gives back the last bytes of its extents in a region is never refused, and keeps all others.
-use Rattle.plan_rules.proofs.Filters.{each_filtered, fewer, many_filtered}
-use Rattle.std.proofs.Math.Nat.{zero-mod}
-use Rattle.std.proofs.Common.{◌≡◌, ℕ, ◌+◌, ◌-◌, ◌%◌, ◌<◌, ◌≤◌, Bool, true, false, not, List, [], ◌∷◌, ◌++◌, length, map, None, refl, ap, sym, subst, ◌∙◌, inl, inr, arith, ltb, ◌==◌, ◌&&◌}
-use Rattle.std.specs.Prelude.{if◌then◌else◌, fold, reverse, sum_by}
-use Rattle.std.specs.List.{AllByRecursion, filter, list_all}
-use Rattle.std.specs.declared.result.Result.TheVariants.{Ok}
-use Rattle.std.proofs.lemmas.Bool.{eqb-true, false≢true, le-ltb, ne_eqb, cases_lt}
-use Rattle.std.proofs.lemmas.List.{length-reverse, reverse-reverse}
-use Rattle.dcd_base.specs.Limits.{extents_listed, extents_supported}
-use Rattle.dcd_base.specs.Words.{has_granule}
-use Rattle.dcd_base.specs.declared.capacity.Extent.{Extent}
-use Rattle.dcd_base.specs.declared.ids.HostId.{HostId}
-use Rattle.extent_list.specs.ExtentLists.{count_in, cut_all, is_in, is_whole, lies_in, marked, owner_of}
-use Rattle.host_payloads.specs.declared.requests.HostRequest.{HostRequest}
-use Rattle.extent_list.specs.Listing.{incomplete, is_shareable_at, some_left}
-use Rattle.media_map.specs.Places.{region_at, run_of}
-use Rattle.media_map.proofs.PlaceLemmas.{has}
-use Rattle.media_map.proofs.RunLemmas.{region_at_is}
-use Rattle.region_config.specs.Configurations.{Configuration}
-use Rattle.region_config.specs.Granules.{base_of, region_spec, with_blocks}
-use Rattle.region_config.specs.Soundness.{IsSound}
-use Rattle.release_core.specs.Leaving.{count_after}
-use Rattle.release_core.specs.Releases.{give_back_rule}
-use Rattle.journal_core.specs.Entries.{effects}
-use Rattle.journal_core.specs.declared.entries.Entry.{Entry}
-use Rattle.journal_core.specs.declared.outcome.Effect.{Effect}
-use Rattle.journal_core.specs.declared.outcome.HeldKind.{HeldKind}
-use Rattle.isolation_laws.specs.device_rules.specs.Answers.{host_outcome, host_rule}
-use Rattle.isolation_laws.specs.device_rules.specs.Hosts.{accepted_after, accepted_of, offers_after, offers_of, block_of}
-use Rattle.isolation_laws.specs.device_rules.specs.Legal.{Legal}
-use Rattle.isolation_laws.specs.device_rules.specs.Outcomes.{Outcome, effects_of}
-use Rattle.isolation_laws.specs.device_rules.specs.ReleaseOutcomes.{leaves, removals}
-use Rattle.isolation_laws.specs.device_rules.specs.ResponseOutcomes.{unhold}
-use Rattle.isolation_laws.specs.device_rules.specs.Views.{view_of}
-use Rattle.isolation_laws.specs.device_rules.proofs.ListSteps.{each-all, each-both, each-change, many}
-use Rattle.isolation_laws.specs.device_rules.specs.Pictures.{Picture, count_on, picture_of}
-use Rattle.isolation_laws.specs.device_rules.specs.Standing.{IsMade, Sound, Stands}
-use Rattle.isolation_laws.specs.device_rules.proofs.AllLeave.{Behind, all_leave}
-use Rattle.isolation_laws.specs.device_rules.proofs.CutSteps.{lies, lies-from}
-use Rattle.isolation_laws.specs.device_rules.proofs.Going.{IsGoing, all_behind, going_ready, some_going}
-use Rattle.isolation_laws.specs.device_rules.proofs.Homes.{region_at_same}
-use Rattle.isolation_laws.specs.device_rules.proofs.LegalSound.{legal_is_sound}
-use Rattle.isolation_laws.specs.device_rules.proofs.OneLeave.{accepted_made, accepted_once, loose}
-use Rattle.isolation_laws.specs.device_rules.proofs.OneOffer.{any-implies}
-use Rattle.plan_rules.specs.GivingBack.{GivesLastBytesBack, MadeOfBlocks}
-use Rattle.plan_rules.specs.Kept.{KeepsOthers, begins_in, bytes_in}
-use Rattle.plan_rules.specs.LastBytes.{without_last_bytes}
-use Rattle.plan_rules.proofs.Allowed.{each_may_go, share_same}
-use Rattle.plan_rules.proofs.Answering.{host_does}
-use Rattle.plan_rules.proofs.ClosedTags.{leaves_are}
+use Rattle.plan_rules.proofs.{Allowed.each_may_go, Allowed.share_same, Answering.host_does, ClosedTags.leaves_are}
 use Rattle.plan_rules.proofs.Emptying.{accepted_few, leaves_pass, none_of_two, over_leaves_offers, unbroken}
-use Rattle.dcd_base.specs.declared.steps.LogId.{LogId}
-use Rattle.isolation_laws.specs.device_rules.specs.Logs.{log_of}
-use Rattle.journal_core.specs.Holders.{holding_after, holds}
-use Rattle.isolation_laws.specs.device_rules.proofs.LogHistories.{leaves_logs}
-use Rattle.plan_rules.proofs.KeptLogs.{log_kept}
+use Rattle.plan_rules.proofs.Filters.{each_filtered, fewer, many_filtered}
 use Rattle.plan_rules.proofs.Keeping.{leaves_held, leaves_host, others_kept, outcome_accepted, outcome_held, outcome_holds, outcome_offers}
-use Rattle.isolation_laws.proofs.RemovalViews.{no_block as leaves_blocks}
+use Rattle.plan_rules.{proofs.KeptLogs.log_kept, specs.GivingBack.GivesLastBytesBack, specs.GivingBack.MadeOfBlocks, specs.Kept.KeepsOthers, specs.Kept.begins_in, specs.Kept.bytes_in}
+use Rattle.plan_rules.specs.LastBytes.{without_last_bytes}
+use Rattle.std.proofs.{Math.Nat.zero-mod, lemmas.Bool.eqb-true, lemmas.Bool.false≢true, lemmas.Bool.le-ltb, lemmas.Bool.ne_eqb, lemmas.Bool.cases_lt}
+use Rattle.std.{proofs.lemmas.List.length-reverse, proofs.lemmas.List.reverse-reverse, specs.List.AllByRecursion, specs.List.filter, specs.List.list_all}
+use Rattle.std.specs.{Prelude.if◌then◌else◌, Prelude.fold, Prelude.reverse, Prelude.sum_by, declared.result.Result.TheVariants.Ok}
+use Rattle.std.proofs.Common.{◌≡◌, ℕ, ◌+◌, ◌-◌, ◌%◌, ◌<◌, ◌≤◌, Bool, true, false, not, List, [], ◌∷◌, ◌++◌, length, map, None, refl, ap, sym, subst, ◌∙◌, inl, inr, arith, ltb, ◌==◌, ◌&&◌}
+use Rattle.dcd_base.specs.{Limits.extents_listed, Limits.extents_supported, Words.has_granule, declared.capacity.Extent.Extent, declared.ids.HostId.HostId, declared.steps.LogId.LogId}
+use Rattle.extent_list.specs.ExtentLists.{count_in, cut_all, is_in, is_whole, lies_in, marked, owner_of}
+use Rattle.extent_list.specs.Listing.{incomplete, is_shareable_at, some_left}
+use Rattle.host_payloads.specs.declared.requests.HostRequest.{HostRequest}
+use Rattle.media_map.{specs.Places.region_at, specs.Places.run_of, proofs.PlaceLemmas.has, proofs.RunLemmas.region_at_is}
+use Rattle.region_config.specs.{Configurations.Configuration, Granules.base_of, Granules.region_spec, Granules.with_blocks, Soundness.IsSound}
+use Rattle.release_core.specs.{Leaving.count_after, Releases.give_back_rule}
+use Rattle.journal_core.specs.{Entries.effects, declared.entries.Entry.Entry, declared.outcome.Effect.Effect, declared.outcome.HeldKind.HeldKind, Holders.holding_after, Holders.holds}
+use Rattle.isolation_laws.{proofs.RemovalViews.no_block as leaves_blocks, specs.device_rules.proofs.AllLeave.Behind, specs.device_rules.proofs.AllLeave.all_leave}
+use Rattle.isolation_laws.specs.device_rules.proofs.{CutSteps.lies, CutSteps.lies-from, Going.IsGoing, Going.all_behind, Going.going_ready, Going.some_going, Homes.region_at_same}
+use Rattle.isolation_laws.specs.device_rules.proofs.{LegalSound.legal_is_sound, ListSteps.each-all, ListSteps.each-both, ListSteps.each-change, ListSteps.many, LogHistories.leaves_logs}
+use Rattle.isolation_laws.specs.device_rules.proofs.{OneLeave.accepted_made, OneLeave.accepted_once, OneLeave.loose, OneOffer.any-implies}
+use Rattle.isolation_laws.specs.device_rules.specs.{Answers.host_outcome, Answers.host_rule, Hosts.accepted_after, Hosts.accepted_of, Hosts.offers_after, Hosts.offers_of, Hosts.block_of, Legal.Legal}
+use Rattle.isolation_laws.specs.device_rules.specs.{Logs.log_of, Outcomes.Outcome, Outcomes.effects_of, Pictures.Picture, Pictures.count_on, Pictures.picture_of}
+use Rattle.isolation_laws.specs.device_rules.specs.{ReleaseOutcomes.leaves, ReleaseOutcomes.removals, ResponseOutcomes.unhold, Standing.IsMade, Standing.Sound, Standing.Stands, Views.view_of}
 use Rattle.plan_rules.proofs.LastBytes.{IsLong, IsTail, cut_last, each-reverse, filter-reverse, last_behind, last_each, last_few, last_parts, same_last, whole_more, without_elsewhere, without_few, without_in, without_there, long, long-reverse, sum_whole, without_long}
 
 -- who holds a granule behind leaves held it before

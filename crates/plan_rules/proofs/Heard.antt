@@ -1,32 +1,17 @@
 -- The messages of a plan are read as what they say.
 use Rattle.std.proofs.Common.{◌≡◌, ℕ, suc, ◌+◌, ◌%◌, ◌^◌, ◌<◌, true, false, List, [], ◌∷◌, length, map, get_or, Ok, refl, ap, ◌∙◌, arith, get_or-drop}
-use Rattle.std.specs.List.{AllByRecursion, list_all}
-use Rattle.dcd_base.specs.declared.capacity.Extent.{Extent}
-use Rattle.dcd_base.specs.declared.ids.HostId.{HostId}
-use Rattle.dcd_base.specs.Words.{zero_tag}
-use Rattle.region_config.specs.Configurations.{Configuration}
-use Rattle.region_config.specs.Soundness.{IsSound}
-use Rattle.fm_payloads.specs.ManagerPayloads.{manager_fields, manager_request}
-use Rattle.fm_payloads.specs.declared.requests.FmRequest.{FmRequest}
-use Rattle.fm_payloads.proofs.ManagerLaws.{manager_only}
-use Rattle.std.proofs.lemmas.List.{length-drop, length-map}
-use Rattle.dcd_base.specs.EventCommands.{FitsHandle}
-use Rattle.dcd_base.proofs.EventCommands.{clear_fits}
+use Rattle.std.{specs.List.AllByRecursion, specs.List.list_all, proofs.lemmas.List.length-drop, proofs.lemmas.List.length-map}
+use Rattle.dcd_base.{proofs.Agreement.Agrees-spelled, proofs.EventCommands.clear_fits, specs.EventCommands.FitsHandle, specs.Layouts.FitsField, specs.Layouts.spelling, specs.Words.zero_tag}
+use Rattle.dcd_base.specs.declared.{capacity.Extent.Extent, ids.HostId.HostId, steps.LogId.LogId}
+use Rattle.region_config.specs.{Configurations.Configuration, Soundness.IsSound}
+use Rattle.fm_payloads.{specs.ManagerPayloads.manager_fields, specs.ManagerPayloads.manager_request, specs.declared.requests.FmRequest.FmRequest, proofs.ManagerLaws.manager_only}
 use Rattle.event_log.specs.Logs.{Log, records_in}
 use Rattle.event_records.specs.declared.events.Event.{Event}
-use Rattle.dcd_base.specs.declared.steps.LogId.{LogId}
-use Rattle.journal_core.specs.Entries.{effects}
-use Rattle.journal_core.specs.declared.entries.Entry.{Entry}
-use Rattle.isolation_laws.specs.device_rules.specs.Legal.{Legal}
-use Rattle.isolation_laws.specs.device_rules.specs.Logs.{log_of}
-use Rattle.isolation_laws.specs.device_rules.proofs.LegalLogs.{legal_logs}
-use Rattle.isolation_laws.proofs.LogSizes.{few_records}
-use Rattle.dcd_base.specs.Layouts.{FitsField, spelling}
-use Rattle.dcd_base.proofs.Agreement.{Agrees-spelled}
+use Rattle.journal_core.specs.{Entries.effects, declared.entries.Entry.Entry}
+use Rattle.isolation_laws.{specs.device_rules.specs.Legal.Legal, specs.device_rules.specs.Logs.log_of, specs.device_rules.proofs.LegalLogs.legal_logs, proofs.LogSizes.few_records}
+use Rattle.host_payloads.proofs.{HostLaws.host_only, Written.list_fits}
 use Rattle.host_payloads.specs.HostPayloads.{FitsListed, host_fields, host_opcode, host_request, is_untagged, lists_untagged}
 use Rattle.host_payloads.specs.declared.requests.HostRequest.{HostRequest}
-use Rattle.host_payloads.proofs.HostLaws.{host_only}
-use Rattle.host_payloads.proofs.Written.{list_fits}
 use Rattle.plan_rules.specs.Listing.{listed}
 
 abbrev pub IsHeard : HostRequest → Type 0

@@ -1,24 +1,16 @@
 -- Effects that leave the hosts' lists and the block sizes, and what a command's changes make of them.
 use Rattle.std.proofs.Common.{◌≡◌, ℕ, Bool, true, false, not, ◌&&◌, ◌==◌, List, [], ◌∷◌, ◌++◌, refl, ap, sym, ◌∙◌}
-use Rattle.std.specs.Prelude.{drop, fold, if◌then◌else◌}
+use Rattle.std.proofs.lemmas.{Bool.eqb-true, Bool.false≢true, Bool.false_from_ne_true, Bool.not-true, List.Sums.fold-append}
+use Rattle.std.specs.{List.list_all, Prelude.drop, Prelude.fold, Prelude.if◌then◌else◌}
 use Rattle.media_map.specs.Places.{bytes_of_run, start_of}
 use Rattle.extent_list.specs.ExtentLists.{cut}
-use Rattle.std.specs.List.{list_all}
-use Rattle.std.proofs.lemmas.List.Sums.{fold-append}
-use Rattle.std.proofs.lemmas.Bool.{eqb-true, false≢true, false_from_ne_true, not-true}
-use Rattle.dcd_base.specs.declared.capacity.Extent.{Extent}
-use Rattle.dcd_base.specs.declared.ids.HostId.{HostId}
-use Rattle.region_config.specs.Configurations.{Configuration}
-use Rattle.region_config.specs.Granules.{region_spec}
-use Rattle.journal_core.specs.Holders.{holding_after, holds}
-use Rattle.journal_core.specs.declared.outcome.Effect.{Effect}
-use Rattle.journal_core.specs.declared.outcome.HeldKind.{HeldKind}
+use Rattle.dcd_base.specs.declared.{capacity.Extent.Extent, ids.HostId.HostId}
+use Rattle.region_config.specs.{Configurations.Configuration, Granules.region_spec}
+use Rattle.journal_core.specs.{Holders.holding_after, Holders.holds, declared.outcome.Effect.Effect, declared.outcome.HeldKind.HeldKind}
 use Rattle.isolation_laws.specs.device_rules.specs.Hosts.{accepted_after, accepted_of, block_after, block_of, held_after, held_of, offers_after, offers_of, same_kind}
+use Rattle.isolation_laws.{proofs.RemovalViews.no_block as leaves_blocks, specs.device_rules.proofs.Leaving.over-leaving, specs.device_rules.proofs.OutcomeSteps.after-outcome}
 use Rattle.isolation_laws.specs.device_rules.specs.Outcomes.{Outcome, effects_of}
-use Rattle.isolation_laws.specs.device_rules.proofs.Leaving.{over-leaving}
-use Rattle.isolation_laws.specs.device_rules.proofs.OutcomeSteps.{after-outcome}
 use Rattle.plan_rules.specs.Kept.{KeepsHost, KeepsOthers}
-use Rattle.isolation_laws.proofs.RemovalViews.{no_block as leaves_blocks}
 
 -- the effect changes no list of the host
 abbrev pub leaves_host : HostId → Effect → Bool

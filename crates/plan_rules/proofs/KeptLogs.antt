@@ -1,25 +1,17 @@
 -- What a command leaves of the hosts' logs.
 use Rattle.std.proofs.Common.{◌≡◌, ◌≢◌, suc, ◌+◌, ◌≤◌, true, false, List, [], ◌∷◌, ◌++◌, length, map, refl, ap, ◌∙◌, arith, length-append, length-drop}
-use Rattle.std.specs.Prelude.{fold}
-use Rattle.std.specs.List.{list_all}
-use Rattle.std.proofs.lemmas.Bool.{ne_eqb}
-use Rattle.std.proofs.lemmas.List.Sums.{fold-append}
-use Rattle.dcd_base.specs.declared.capacity.Extent.{Extent}
-use Rattle.dcd_base.specs.declared.ids.HostId.{HostId}
-use Rattle.dcd_base.specs.declared.steps.LogId.{LogId}
+use Rattle.std.{specs.Prelude.fold, specs.List.list_all, proofs.lemmas.Bool.ne_eqb, proofs.lemmas.List.Sums.fold-append}
+use Rattle.dcd_base.specs.declared.{capacity.Extent.Extent, ids.HostId.HostId, steps.LogId.LogId}
 use Rattle.event_log.specs.Logs.{Log, empty_log, logged, recorded, records_in, room_in}
-use Rattle.event_records.specs.declared.events.Event.{Event}
-use Rattle.event_records.specs.declared.events.EventKind.{EventKind}
+use Rattle.event_records.specs.declared.events.{Event.Event, EventKind.EventKind}
 use Rattle.extent_list.specs.ExtentLists.{marked}
 use Rattle.region_config.specs.Configurations.{Configuration}
 use Rattle.journal_core.specs.declared.outcome.Effect.{Effect}
-use Rattle.isolation_laws.specs.device_rules.specs.Logs.{log_after, log_of, same_log}
-use Rattle.isolation_laws.specs.device_rules.specs.Outcomes.{Outcome, effects_of, ended, no_extent, record_for, records_of_extents}
-use Rattle.isolation_laws.specs.device_rules.specs.ResponseOutcomes.{response_records}
-use Rattle.isolation_laws.specs.device_rules.specs.Views.{View}
 use Rattle.isolation_laws.specs.device_rules.proofs.Leaving.{after_front, both_pass, map_passes, over-leaving}
 use Rattle.isolation_laws.specs.device_rules.proofs.LogHistories.{entered_all-other, leaves_logs, log-left, told, told_one}
-use Rattle.isolation_laws.specs.device_rules.proofs.LogSteps.{IsSound, IsSound-recorded, entered_all-room}
+use Rattle.isolation_laws.specs.device_rules.{proofs.LogSteps.IsSound, proofs.LogSteps.IsSound-recorded, proofs.LogSteps.entered_all-room, specs.Logs.log_after, specs.Logs.log_of, specs.Logs.same_log}
+use Rattle.isolation_laws.specs.device_rules.specs.Outcomes.{Outcome, effects_of, ended, no_extent, record_for, records_of_extents}
+use Rattle.isolation_laws.specs.device_rules.specs.{ResponseOutcomes.response_records, Views.View}
 
 module _ (c : Configuration) (past : List Effect) (o : Outcome) (left : list_all leaves_logs o.changes ≡ true) where
   -- what the command tells alone changes a log

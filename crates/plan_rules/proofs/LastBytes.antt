@@ -1,20 +1,14 @@
 -- The last bytes of extents: where they lie, and what is left of a list without them.
-use Rattle.std.proofs.lemmas.List.Sums.{sum_by-cons}
-use Rattle.std.proofs.lemmas.List.Sorted.{IsPermutation-reverse, sum_by-IsPermutation}
-use Rattle.std.proofs.Common.{◌≡◌, ◌⊎◌, ℕ, ◌+◌, ◌-◌, ◌*◌, ◌/◌, ◌%◌, ◌<◌, ◌≤◌, Bool, true, false, ◌==◌, List, [], ◌∷◌, ◌++◌, length, refl, ap, sym, subst, ◌∙◌, inl, inr, arith, append_assoc, append-nil, div-add-mod', eqb, leb, ltb}
+use Rattle.std.proofs.{Math.Nat.add-mul-mod_self_right, Math.Nat.zero-mod, lemmas.List.reverse-append, lemmas.List.Elements.filter-append}
+use Rattle.std.{proofs.lemmas.List.Sorted.IsPermutation-reverse, proofs.lemmas.List.Sorted.sum_by-IsPermutation, proofs.lemmas.List.Sums.sum_by-cons, specs.List.AllByRecursion, specs.List.filter}
 use Rattle.std.specs.Prelude.{if◌then◌else◌, min, nat_le, reverse, sum_by}
-use Rattle.std.specs.List.{AllByRecursion, filter}
-use Rattle.std.proofs.Math.Nat.{add-mul-mod_self_right, zero-mod}
+use Rattle.std.proofs.Common.{◌≡◌, ◌⊎◌, ℕ, ◌+◌, ◌-◌, ◌*◌, ◌/◌, ◌%◌, ◌<◌, ◌≤◌, Bool, true, false, ◌==◌, List, [], ◌∷◌, ◌++◌, length, refl, ap, sym, subst, ◌∙◌, inl, inr, arith, append_assoc, append-nil, div-add-mod', eqb, leb, ltb}
 use Rattle.std.proofs.lemmas.Bool.{and_from, and_parts, cases_Bool, cases_lt, eqb-false, false≢true, false_from_ne_true, le-leb, le-ltb, leb-false, leb-true, lt-ltb, ltb-true, eqb-true}
-use Rattle.std.proofs.lemmas.List.{reverse-append}
-use Rattle.std.proofs.lemmas.List.Elements.{filter-append}
 use Rattle.dcd_base.specs.declared.capacity.Extent.{Extent}
 use Rattle.extent_list.specs.ExtentLists.{cut, cut_all, has_range, lies_in, overlaps, without}
-use Rattle.isolation_laws.specs.device_rules.proofs.ListSteps.{each-append, each-both, each-change}
-use Rattle.isolation_laws.specs.device_rules.proofs.AllLeave.{Behind}
+use Rattle.isolation_laws.specs.device_rules.proofs.{ListSteps.each-append, ListSteps.each-both, ListSteps.each-change, AllLeave.Behind}
+use Rattle.plan_rules.{proofs.Cutting.apart_outside, proofs.Cutting.cut_skips, proofs.Cutting.cut_whole, specs.LastBytes.without_last_bytes}
 use Rattle.plan_rules.specs.Listing.{last_bytes, last_part, listed}
-use Rattle.plan_rules.specs.LastBytes.{without_last_bytes}
-use Rattle.plan_rules.proofs.Cutting.{apart_outside, cut_skips, cut_whole}
 
 -- ---- the last bytes, with a case for what is listed whole and one for what is listed in part
 

@@ -1,45 +1,23 @@
 -- A log is cleared, an offer is let go, granules are zeroed: what is left of the hosts' lists.
 use Rattle.std.proofs.Common.{◌≡◌, ℕ, ◌+◌, ◌<◌, Bool, true, false, not, ◌&&◌, ◌==◌, List, [], ◌∷◌, ◌++◌, length, map, None, refl, ap, sym, subst, ◌∙◌, inl, arith, append-nil, length-drop}
-use Rattle.std.specs.Prelude.{drop, fold, if◌then◌else◌, option_map}
-use Rattle.std.specs.List.{list_all}
-use Rattle.std.proofs.lemmas.List.{drop_all, length-map, length-take}
-use Rattle.std.proofs.lemmas.List.Sums.{fold-append}
-use Rattle.std.proofs.lemmas.Bool.{eq-eqb, eqb-true}
-use Rattle.dcd_base.specs.declared.capacity.Extent.{Extent}
-use Rattle.dcd_base.specs.declared.ids.HostId.{HostId}
-use Rattle.dcd_base.specs.declared.steps.LogId.{LogId}
-use Rattle.event_log.specs.LogStates.{clear_fault}
-use Rattle.event_log.specs.Logs.{Log, cleared_of, empty_log, records_in}
+use Rattle.std.proofs.lemmas.{Bool.eq-eqb, Bool.eqb-true, List.drop_all, List.length-map, List.length-take, List.Sums.fold-append}
+use Rattle.std.specs.{List.list_all, Prelude.drop, Prelude.fold, Prelude.if◌then◌else◌, Prelude.option_map}
+use Rattle.dcd_base.specs.declared.{capacity.Extent.Extent, ids.HostId.HostId, steps.LogId.LogId}
+use Rattle.event_log.specs.{LogStates.clear_fault, Logs.Log, Logs.cleared_of, Logs.empty_log, Logs.records_in}
 use Rattle.event_records.specs.declared.events.Event.{Event}
 use Rattle.host_payloads.specs.declared.requests.HostRequest.{HostRequest}
 use Rattle.offer_core.specs.InOrder.{AreSome, none as no_more, left as without, SameAddresses}
-use Rattle.region_config.specs.Configurations.{Configuration}
-use Rattle.region_config.specs.Soundness.{IsSound}
-use Rattle.journal_core.specs.Entries.{effects}
-use Rattle.journal_core.specs.declared.entries.Entry.{Entry}
-use Rattle.journal_core.specs.declared.outcome.Effect.{Effect}
-use Rattle.journal_core.specs.declared.outcome.HeldKind.{HeldKind}
-use Rattle.isolation_laws.specs.device_rules.specs.Answers.{host_outcome, scrubbed, zeroes}
-use Rattle.isolation_laws.specs.device_rules.specs.EventCommands.{cleared, rule_of}
-use Rattle.isolation_laws.specs.device_rules.specs.Hosts.{accepted_after, accepted_of, offers_after, offers_of, held_of}
-use Rattle.isolation_laws.specs.device_rules.specs.Legal.{Legal}
-use Rattle.isolation_laws.specs.device_rules.specs.Logs.{log_after, log_of, same_log}
-use Rattle.isolation_laws.specs.device_rules.specs.Tags.{dirty_granules}
-use Rattle.isolation_laws.specs.device_rules.proofs.Leaving.{over-leaving}
-use Rattle.isolation_laws.specs.device_rules.proofs.LogHistories.{leaves_logs, log-left}
-use Rattle.plan_rules.proofs.KeptLogs.{other_log, response_kept}
-use Rattle.journal_core.specs.declared.acts.Reply.{Reply}
-use Rattle.isolation_laws.specs.device_rules.specs.Outcomes.{Outcome, effects_of}
-use Rattle.isolation_laws.specs.device_rules.specs.ResponseOutcomes.{answered, respond_changes, unhold}
-use Rattle.isolation_laws.specs.device_rules.specs.Views.{view_after, view_of}
-use Rattle.isolation_laws.specs.device_rules.proofs.EffectKinds.{clear_passes, zeroes_pass}
-use Rattle.isolation_laws.specs.device_rules.proofs.InOrderResponses.{legal_allows}
-use Rattle.isolation_laws.specs.device_rules.proofs.LogSteps.{same_log-self}
-use Rattle.plan_rules.specs.Kept.{KeepsHosts, KeepsOthers}
+use Rattle.region_config.specs.{Configurations.Configuration, Soundness.IsSound}
+use Rattle.journal_core.specs.{Entries.effects, declared.entries.Entry.Entry, declared.outcome.Effect.Effect, declared.outcome.HeldKind.HeldKind, declared.acts.Reply.Reply}
+use Rattle.isolation_laws.{proofs.RemovalViews.no_block as leaves_blocks, specs.device_rules.proofs.EffectKinds.clear_passes, specs.device_rules.proofs.EffectKinds.zeroes_pass}
+use Rattle.isolation_laws.specs.device_rules.proofs.{InOrderResponses.legal_allows, Leaving.over-leaving, LogHistories.leaves_logs, LogHistories.log-left, LogSteps.same_log-self}
+use Rattle.isolation_laws.specs.device_rules.specs.{Answers.host_outcome, Answers.scrubbed, Answers.zeroes, EventCommands.cleared, EventCommands.rule_of}
+use Rattle.isolation_laws.specs.device_rules.specs.{Hosts.accepted_after, Hosts.accepted_of, Hosts.offers_after, Hosts.offers_of, Hosts.held_of, Legal.Legal}
+use Rattle.isolation_laws.specs.device_rules.specs.{Logs.log_after, Logs.log_of, Logs.same_log, Outcomes.Outcome, Outcomes.effects_of}
+use Rattle.isolation_laws.specs.device_rules.specs.{ResponseOutcomes.answered, ResponseOutcomes.respond_changes, ResponseOutcomes.unhold, Tags.dirty_granules, Views.view_after, Views.view_of}
+use Rattle.plan_rules.{proofs.Answering.host_does, proofs.KeptLogs.other_log, proofs.KeptLogs.response_kept, specs.Kept.KeepsHosts, specs.Kept.KeepsOthers}
 use Rattle.plan_rules.specs.LettingGo.{ClearsWholeLogs, IsOfferLetGo, LetsOffersGo, ScrubsKeep, log_handles}
-use Rattle.plan_rules.proofs.Answering.{host_does}
 use Rattle.plan_rules.proofs.Keeping.{blocks_over, host_kept, leaves_held, leaves_host, others_kept, outcome_accepted, outcome_blocks, outcome_held, outcome_host_kept, outcome_offers}
-use Rattle.isolation_laws.proofs.RemovalViews.{no_block as leaves_blocks}
 
 -- ---- a log
 

@@ -1,47 +1,23 @@
 -- A plan without a fault leaves what was demanded, where each of its acts leaves what it is to leave.
 use Rattle.std.proofs.Common.{◌≡◌, ℕ, ◌+◌, ◌-◌, ◌*◌, ◌/◌, ◌%◌, ◌^◌, ◌<◌, ◌≤◌, Bool, true, false, ◌==◌, List, [], ◌∷◌, length, get_or, None, refl, sym, ap, subst, ◌∙◌, inl, inr, arith, div-add-mod'}
-use Rattle.std.specs.Prelude.{flat_map, if◌then◌else◌, sum_by}
-use Rattle.std.specs.List.{AllByRecursion, Contains, filter}
-use Rattle.std.proofs.lemmas.Bool.{cases_lt, eq-eqb}
-use Rattle.std.proofs.lemmas.List.Elements.{All-contains, All-from_recursion, Contains-get_or, recursion_from_All}
-use Rattle.std.proofs.lemmas.Nat.{div-mul-add}
-use Rattle.std.proofs.Math.Nat.{add-mul}
-use Rattle.dcd_base.specs.declared.capacity.Extent.{Extent}
-use Rattle.dcd_base.specs.declared.ids.HostId.{HostId}
-use Rattle.dcd_base.specs.declared.steps.Actor.{Actor}
-use Rattle.region_config.specs.Configurations.{Configuration}
-use Rattle.region_config.specs.Granules.{granule_size}
-use Rattle.region_config.specs.Soundness.{IsSound}
-use Rattle.region_config.proofs.Searches.{or_parts as option_parts}
+use Rattle.std.proofs.{Math.Nat.add-mul, lemmas.Bool.cases_lt, lemmas.Bool.eq-eqb}
+use Rattle.std.proofs.lemmas.{List.Elements.All-contains, List.Elements.All-from_recursion, List.Elements.Contains-get_or, List.Elements.recursion_from_All, Nat.div-mul-add}
+use Rattle.std.specs.{List.AllByRecursion, List.Contains, List.filter, Prelude.flat_map, Prelude.if◌then◌else◌, Prelude.sum_by}
+use Rattle.dcd_base.specs.declared.{capacity.Extent.Extent, ids.HostId.HostId, steps.Actor.Actor}
+use Rattle.region_config.{specs.Configurations.Configuration, specs.Granules.granule_size, specs.Soundness.IsSound, proofs.Searches.or_parts as option_parts}
 use Rattle.media_map.specs.Places.{region_at}
-use Rattle.journal_core.specs.Entries.{effects}
-use Rattle.journal_core.specs.declared.acts.Act.{Act}
-use Rattle.journal_core.specs.declared.outcome.Effect.{Effect}
-use Rattle.journal_core.specs.declared.outcome.HeldKind.{HeldKind}
-use Rattle.journal_core.specs.declared.entries.Entry.{Entry}
-use Rattle.isolation_laws.specs.device_rules.specs.Adding.{is_free_now}
-use Rattle.isolation_laws.specs.device_rules.specs.Counts.{dirty_count}
-use Rattle.isolation_laws.specs.device_rules.specs.Hosts.{accepted_of, block_of}
-use Rattle.isolation_laws.specs.device_rules.specs.Legal.{Legal}
-use Rattle.isolation_laws.specs.device_rules.specs.Pictures.{Picture, picture_of}
-use Rattle.isolation_laws.specs.device_rules.specs.Standing.{IsHome}
-use Rattle.isolation_laws.specs.device_rules.proofs.Homes.{made_region, supported_some, supported_whole}
-use Rattle.isolation_laws.specs.device_rules.proofs.LegalSound.{legal_is_sound}
-use Rattle.plan_rules.specs.declared.demands.Demand.{Demand}
-use Rattle.plan_rules.specs.declared.demands.Demands.{Demands}
-use Rattle.plan_rules.specs.Holding.{blocks_held, extents_in_region, gain, stepped, surplus}
-use Rattle.plan_rules.specs.Listing.{gaining, give_back_surplus, let_go, losing, planned, prepared, ready, zeroing}
-use Rattle.plan_rules.specs.Meeting.{IsNamed, MeetsDemands}
-use Rattle.plan_rules.specs.Planning.{named_fault, need_in, plan_fault, refused_in, short_fault}
-use Rattle.plan_rules.specs.Kept.{bytes_in}
-use Rattle.plan_rules.specs.ActsLeft.{ActsLeaveAll, IsPlain, Unbroken}
-use Rattle.plan_rules.proofs.DeadHosts.{HasNothing, IsReadyToGo, dead_gone, touches_host}
-use Rattle.plan_rules.proofs.Demanded.{HasGained, HasLost, IsReadyToGain, IsReadyToLose, all_gained, all_lost, open_still, open_then, touches_pair}
-use Rattle.plan_rules.proofs.Room.{all_needed, free_fits}
+use Rattle.journal_core.specs.{Entries.effects, declared.acts.Act.Act, declared.outcome.Effect.Effect, declared.outcome.HeldKind.HeldKind, declared.entries.Entry.Entry}
+use Rattle.isolation_laws.specs.device_rules.{proofs.Homes.made_region, proofs.Homes.supported_some, proofs.Homes.supported_whole, proofs.LegalSound.legal_is_sound, specs.Adding.is_free_now}
+use Rattle.isolation_laws.specs.device_rules.specs.{Counts.dirty_count, Hosts.accepted_of, Hosts.block_of, Legal.Legal, Pictures.Picture, Pictures.picture_of, Standing.IsHome}
+use Rattle.plan_rules.proofs.{DeadHosts.HasNothing, DeadHosts.IsReadyToGo, DeadHosts.dead_gone, DeadHosts.touches_host, Room.all_needed, Room.free_fits}
 use Rattle.plan_rules.proofs.Stillness.{Still, homes_before, still_all, still_self, still_then}
-use Rattle.plan_rules.proofs.UnbrokenActs.{none_refused, scrub_legal, stepped-append, unbroken_parts}
-use Rattle.plan_rules.proofs.Walks.{LeavesAll, all_by, both_by}
-use Rattle.plan_rules.proofs.WithoutFault.{IsClosed, IsFaultless, faultless}
+use Rattle.plan_rules.proofs.{UnbrokenActs.none_refused, UnbrokenActs.scrub_legal, UnbrokenActs.stepped-append, UnbrokenActs.unbroken_parts, Walks.LeavesAll, Walks.all_by, Walks.both_by}
+use Rattle.plan_rules.{proofs.WithoutFault.IsClosed, proofs.WithoutFault.IsFaultless, proofs.WithoutFault.faultless, specs.ActsLeft.ActsLeaveAll, specs.ActsLeft.IsPlain, specs.ActsLeft.Unbroken}
+use Rattle.plan_rules.specs.{Holding.blocks_held, Holding.extents_in_region, Holding.gain, Holding.stepped, Holding.surplus, Kept.bytes_in}
+use Rattle.plan_rules.specs.Listing.{gaining, give_back_surplus, let_go, losing, planned, prepared, ready, zeroing}
+use Rattle.plan_rules.specs.{Meeting.IsNamed, Meeting.MeetsDemands, Planning.named_fault, Planning.need_in, Planning.plan_fault, Planning.refused_in, Planning.short_fault}
+use Rattle.plan_rules.specs.declared.demands.{Demand.Demand, Demands.Demands}
+use Rattle.plan_rules.proofs.Demanded.{HasGained, HasLost, IsReadyToGain, IsReadyToLose, all_gained, all_lost, open_still, open_then, touches_pair}
 
 -- ---- numbers
 

@@ -1,51 +1,25 @@
 -- An act of a plan that is refused is refused for want of room.
 use Rattle.std.proofs.Common.{◌≡◌, ℕ, zero, suc, ◌+◌, ◌*◌, ◌/◌, ◌^◌, ◌<◌, ◌≤◌, Bool, true, false, ◌==◌, List, [], ◌∷◌, ◌++◌, length, Option, Some, None, refl, sym, ap, subst, ◌∙◌, inl, inr, ◌⊎◌, arith}
-use Rattle.std.specs.Prelude.{if◌then◌else◌, is_some, nat_lt, option_and_then, option_map, sum_by}
-use Rattle.std.specs.List.{AllByRecursion, find, range_with_len}
-use Rattle.std.specs.Result.{result_err}
-use Rattle.std.proofs.lemmas.Bool.{cases_Bool, cases_eq, eq-eqb, eqb-false, eqb-true}
-use Rattle.std.proofs.lemmas.List.Sums.{sum_by-cons}
 use Rattle.std.proofs.Math.Nat.{mul-div_cancel, mul-le-mul_right, mul-mod_left}
-use Rattle.dcd_base.specs.declared.capacity.Extent.{Extent}
-use Rattle.dcd_base.specs.declared.ids.HostId.{HostId}
-use Rattle.dcd_base.specs.declared.steps.LogId.{LogId}
-use Rattle.dcd_base.specs.Words.{◌or◌, zero_tag}
-use Rattle.dcd_codes.specs.declared.rules.Rule.{Rule}
-use Rattle.dcd_codes.specs.Rules.{◌breaks◌}
+use Rattle.std.proofs.lemmas.{Bool.cases_Bool, Bool.cases_eq, Bool.eq-eqb, Bool.eqb-false, Bool.eqb-true, List.Sums.sum_by-cons}
+use Rattle.std.specs.{List.AllByRecursion, List.find, List.range_with_len, Prelude.if◌then◌else◌, Prelude.is_some, Prelude.nat_lt, Prelude.option_and_then, Prelude.option_map, Prelude.sum_by}
+use Rattle.std.specs.Result.{result_err}
+use Rattle.dcd_base.specs.{declared.capacity.Extent.Extent, declared.ids.HostId.HostId, declared.steps.LogId.LogId, Words.◌or◌, Words.zero_tag}
+use Rattle.dcd_codes.specs.{declared.rules.Rule.Rule, Rules.◌breaks◌}
 use Rattle.event_log.specs.Logs.{Log, room_in}
 use Rattle.fm_payloads.specs.declared.requests.FmRequest.{FmRequest}
 use Rattle.extent_list.specs.Listing.{too_many_extents}
-use Rattle.region_config.specs.Configurations.{Configuration}
-use Rattle.region_config.specs.Soundness.{IsSound}
-use Rattle.region_config.proofs.Searches.{or_parts as option_parts}
-use Rattle.journal_core.specs.Entries.{effects}
-use Rattle.journal_core.specs.declared.outcome.Effect.{Effect}
-use Rattle.journal_core.specs.declared.entries.Entry.{Entry}
-use Rattle.isolation_laws.specs.device_rules.specs.Answers.{broken, manager_outcome, manager_result, manager_rule, unless}
-use Rattle.isolation_laws.specs.device_rules.specs.Hosts.{block_of}
-use Rattle.isolation_laws.specs.device_rules.specs.Legal.{Legal}
-use Rattle.isolation_laws.specs.device_rules.specs.Outcomes.{Outcome, log_full}
-use Rattle.isolation_laws.specs.device_rules.specs.Logs.{log_of}
-use Rattle.isolation_laws.specs.device_rules.specs.Views.{extents_in, view_of}
-use Rattle.isolation_laws.specs.device_rules.proofs.Homes.{supported_some}
-use Rattle.isolation_laws.specs.device_rules.proofs.LegalSound.{legal_is_sound}
-use Rattle.plan_rules.specs.declared.demands.Demand.{Demand}
-use Rattle.plan_rules.specs.declared.demands.Demands.{Demands}
-use Rattle.plan_rules.specs.Taking.{blocks_free_now, free_offer_of}
-use Rattle.plan_rules.proofs.RoomAlone.{only_room_is_wanting}
-use Rattle.plan_rules.specs.Holding.{Step, gain, stepped}
-use Rattle.plan_rules.specs.Listing.{by_manager, gained, gaining, offer_taken, planned, prepared, ready}
+use Rattle.region_config.{specs.Configurations.Configuration, specs.Soundness.IsSound, proofs.Searches.or_parts as option_parts}
+use Rattle.journal_core.specs.{Entries.effects, declared.outcome.Effect.Effect, declared.entries.Entry.Entry}
+use Rattle.isolation_laws.specs.device_rules.proofs.{Homes.supported_some, LegalSound.legal_is_sound}
+use Rattle.isolation_laws.specs.device_rules.specs.{Answers.broken, Answers.manager_outcome, Answers.manager_result, Answers.manager_rule, Answers.unless, Hosts.block_of, Legal.Legal, Logs.log_of}
+use Rattle.isolation_laws.specs.device_rules.specs.{Outcomes.Outcome, Outcomes.log_full, Views.extents_in, Views.view_of}
+use Rattle.plan_rules.proofs.{AllActs.acts_leave, AllowedParts.prepared_allowed, Demanded.IsReadyToGain, Demanded.gaining_walk, Demanded.touches_pair, Heard.add_heard}
+use Rattle.plan_rules.proofs.{Meeting.gain_ready, Meeting.part_3, Providing.fewer_free, Providing.offer_taken_too, RoomAlone.only_room_is_wanting, Walks.AllApart, Walks.both_by}
+use Rattle.plan_rules.{proofs.WithoutFault.IsFaultless, proofs.WithoutFault.faultless, specs.ActsLeft.Unbroken, specs.ActsLeft.journal_behind, specs.ActsLeft.offering, specs.ActsLeft.providing}
+use Rattle.plan_rules.specs.{Holding.Step, Holding.gain, Holding.stepped, Listing.by_manager, Listing.gained, Listing.gaining, Listing.offer_taken, Listing.planned, Listing.prepared, Listing.ready}
+use Rattle.plan_rules.specs.{Taking.blocks_free_now, Taking.free_offer_of, declared.demands.Demand.Demand, declared.demands.Demands.Demands, declared.faults.PlanFault.PlanFault}
 use Rattle.plan_rules.specs.Planning.{IsOfRoom, broken_at, is_bad_dead, is_bad_demand, is_open, is_room_rule, lowest_below, named_fault, plan_fault, refused_in, short_fault}
-use Rattle.plan_rules.specs.declared.faults.PlanFault.{PlanFault}
-use Rattle.plan_rules.specs.ActsLeft.{Unbroken, journal_behind, offering, providing}
-use Rattle.plan_rules.proofs.AllActs.{acts_leave}
-use Rattle.plan_rules.proofs.AllowedParts.{prepared_allowed}
-use Rattle.plan_rules.proofs.Demanded.{IsReadyToGain, gaining_walk, touches_pair}
-use Rattle.plan_rules.proofs.Heard.{add_heard}
-use Rattle.plan_rules.proofs.Meeting.{gain_ready, part_3}
-use Rattle.plan_rules.proofs.Providing.{fewer_free, offer_taken_too}
-use Rattle.plan_rules.proofs.Walks.{AllApart, both_by}
-use Rattle.plan_rules.proofs.WithoutFault.{IsFaultless, faultless}
 
 -- ---- acts of which the first that is refused wants room
 

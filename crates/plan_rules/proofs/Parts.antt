@@ -1,15 +1,11 @@
 -- Extents that lie in others of the same tag.
 use Rattle.std.proofs.Common.{◌≡◌, ℕ, ◌+◌, ◌-◌, ◌≤◌, Bool, true, false, ◌&&◌, List, [], ◌∷◌, ◌++◌, refl, ap, sym, ◌∙◌, inl, inr, arith, leb, ltb}
+use Rattle.std.proofs.lemmas.{Bool.and_from, Bool.and_parts, Bool.cases_Bool, Bool.false≢true, Bool.leb-true, Bool.ltb-true, Bool.or_left, Bool.or_right, List.Folds.list_any-append}
 use Rattle.std.specs.List.{AllByRecursion, list_any}
-use Rattle.std.proofs.lemmas.Bool.{and_from, and_parts, cases_Bool, false≢true, leb-true, ltb-true, or_left, or_right}
-use Rattle.std.proofs.lemmas.List.Folds.{list_any-append}
-use Rattle.dcd_base.specs.declared.capacity.Extent.{Extent}
-use Rattle.dcd_base.specs.Words.{same_tag}
+use Rattle.dcd_base.specs.{declared.capacity.Extent.Extent, Words.same_tag}
 use Rattle.extent_list.specs.ExtentLists.{cut, has_range, is_in, lies_in, marked, owner_of, piece, without}
-use Rattle.isolation_laws.specs.device_rules.proofs.ListSteps.{each-append, each-at, each-change}
+use Rattle.isolation_laws.specs.device_rules.proofs.{CutSteps.lies, CutSteps.lies-from, ListSteps.each-append, ListSteps.each-at, ListSteps.each-change, OneOffer.any-implies}
 use Rattle.isolation_laws.specs.device_rules.proofs.TagSteps.{same_tag-is, same_tag-self}
-use Rattle.isolation_laws.specs.device_rules.proofs.CutSteps.{lies, lies-from}
-use Rattle.isolation_laws.specs.device_rules.proofs.OneOffer.{any-implies}
 
 -- whether x lies in y and has its tag
 abbrev pub is_part : Extent → Extent → Bool

@@ -1,40 +1,18 @@
 -- What a host's 4803h leaves that gives back the last blocks of its extents in a region.
 use Rattle.std.proofs.Common.{◌≡◌, ℕ, ◌+◌, ◌-◌, ◌*◌, ◌^◌, ◌<◌, ◌≤◌, Bool, true, false, ◌==◌, List, [], ◌∷◌, length, refl, sym, ap, subst, arith}
-use Rattle.std.specs.Prelude.{if◌then◌else◌, reverse}
-use Rattle.std.specs.List.{AllByRecursion, filter, list_all}
-use Rattle.std.proofs.lemmas.List.{length-reverse}
-use Rattle.std.proofs.Math.Nat.{mul-mod_left}
-use Rattle.dcd_base.specs.declared.capacity.Extent.{Extent}
-use Rattle.dcd_base.specs.declared.ids.HostId.{HostId}
-use Rattle.dcd_base.specs.Layouts.{spelling}
-use Rattle.host_payloads.specs.HostPayloads.{FitsListed, host_fields, is_untagged}
-use Rattle.host_payloads.specs.declared.requests.HostRequest.{HostRequest}
-use Rattle.region_config.specs.Configurations.{Configuration}
-use Rattle.region_config.specs.Soundness.{IsSound}
-use Rattle.region_config.proofs.Faultless.{region_ends}
+use Rattle.std.{specs.Prelude.if◌then◌else◌, specs.Prelude.reverse, specs.List.AllByRecursion, specs.List.filter, specs.List.list_all, proofs.lemmas.List.length-reverse, proofs.Math.Nat.mul-mod_left}
+use Rattle.dcd_base.specs.{declared.capacity.Extent.Extent, declared.ids.HostId.HostId, Layouts.spelling}
+use Rattle.host_payloads.specs.{HostPayloads.FitsListed, HostPayloads.host_fields, HostPayloads.is_untagged, declared.requests.HostRequest.HostRequest}
+use Rattle.region_config.{specs.Configurations.Configuration, specs.Soundness.IsSound, proofs.Faultless.region_ends}
 use Rattle.media_map.specs.Places.{region_at}
-use Rattle.journal_core.specs.Entries.{effects}
-use Rattle.journal_core.specs.declared.outcome.HeldKind.{HeldKind}
-use Rattle.journal_core.specs.declared.entries.Entry.{Entry}
-use Rattle.isolation_laws.specs.device_rules.specs.Hosts.{accepted_of, block_of, held_of}
-use Rattle.isolation_laws.specs.device_rules.specs.Legal.{Legal}
-use Rattle.isolation_laws.specs.device_rules.proofs.ListSteps.{each-change}
-use Rattle.isolation_laws.specs.device_rules.specs.Pictures.{picture_of}
-use Rattle.isolation_laws.specs.device_rules.specs.Standing.{IsHome}
-use Rattle.isolation_laws.specs.device_rules.proofs.LegalSound.{legal_is_sound}
-use Rattle.plan_rules.specs.declared.demands.Demand.{Demand}
+use Rattle.journal_core.specs.{Entries.effects, declared.outcome.HeldKind.HeldKind, declared.entries.Entry.Entry}
+use Rattle.isolation_laws.specs.device_rules.{proofs.LegalSound.legal_is_sound, proofs.ListSteps.each-change, specs.Hosts.accepted_of, specs.Hosts.block_of, specs.Hosts.held_of, specs.Legal.Legal}
+use Rattle.isolation_laws.specs.device_rules.specs.{Pictures.picture_of, Standing.IsHome}
+use Rattle.plan_rules.proofs.{Acts.behind_is, Emptying.accepted_few, Filters.fewer, GivingBack.gives_last_bytes_back, Heard.release_heard}
+use Rattle.plan_rules.proofs.{LastBytes.each-reverse, LastBytes.last_few, LastBytes.same_last, Stillness.homes_before}
+use Rattle.plan_rules.specs.{ActsLeft.BytesLeave, ActsLeft.IsPlain, ActsLeft.Unbroken, ActsLeft.giving_back, ActsLeft.journal_behind, GivingBack.IsGivenBack, Holding.extents_in_region}
+use Rattle.plan_rules.specs.{Listing.last_bytes, Listing.last_part, declared.demands.Demand.Demand}
 use Rattle.cci_codec.specs.declared.messages.Request.{Request}
-use Rattle.plan_rules.specs.GivingBack.{IsGivenBack}
-use Rattle.plan_rules.proofs.Emptying.{accepted_few}
-use Rattle.plan_rules.proofs.Filters.{fewer}
-use Rattle.plan_rules.proofs.GivingBack.{gives_last_bytes_back}
-use Rattle.plan_rules.proofs.LastBytes.{each-reverse, last_few, same_last}
-use Rattle.plan_rules.specs.Holding.{extents_in_region}
-use Rattle.plan_rules.specs.Listing.{last_bytes, last_part}
-use Rattle.plan_rules.specs.ActsLeft.{BytesLeave, IsPlain, Unbroken, giving_back, journal_behind}
-use Rattle.plan_rules.proofs.Acts.{behind_is}
-use Rattle.plan_rules.proofs.Heard.{release_heard}
-use Rattle.plan_rules.proofs.Stillness.{homes_before}
 
 -- ---- the last bytes of a list
 

@@ -1,60 +1,34 @@
 -- After every legal journal extents outside the shareable regions have no open tag, and no host has too many tags.
 use Rattle.std.proofs.Common.{◌≡◌, ℕ, ◌<◌, Bool, true, false, not, ◌&&◌, ◌==◌, List, [], ◌∷◌, ◌++◌, length, map, Some, None, refl, ap, sym, subst, ◌∙◌, inl, inr, arith, append_assoc, append-nil, eqb, leb, ◌≤◌, ltb}
-use Rattle.std.specs.Prelude.{if◌then◌else◌, IsTrue, Option, unwrap_or}
-use Rattle.std.specs.List.{list_all}
-use Rattle.std.specs.declared.result.Result.{Result}
-use Rattle.std.specs.declared.result.Result.TheVariants.{Ok, Err}
 use Rattle.std.proofs.lemmas.Bool.{and_cases, and_parts, eq-eqb, false≢true, leb-false, ltb-true, not-false, ltb-false}
-use Rattle.dcd_base.specs.declared.capacity.Extent.{Extent}
-use Rattle.dcd_base.specs.declared.capacity.Tag.{Tag}
-use Rattle.dcd_base.specs.declared.ids.HostId.{HostId}
-use Rattle.dcd_base.specs.declared.steps.Actor.{Actor}
-use Rattle.dcd_base.specs.declared.steps.LogId.{LogId}
-use Rattle.dcd_base.specs.Words.{has_tag}
+use Rattle.std.{proofs.lemmas.List.Elements.All-contains, proofs.lemmas.List.Elements.All-from_recursion, specs.List.list_all}
+use Rattle.std.specs.{Prelude.if◌then◌else◌, Prelude.IsTrue, Prelude.Option, Prelude.unwrap_or, declared.result.Result.Result}
+use Rattle.std.specs.declared.result.Result.TheVariants.{Ok, Err}
+use Rattle.dcd_base.specs.{Limits.tags_supported, Words.has_tag, declared.capacity.Extent.Extent, declared.capacity.Tag.Tag}
+use Rattle.dcd_base.specs.declared.{faults.PayloadFault.PayloadFault as ManagerFault, faults.PayloadFault.PayloadFault as HostFault, ids.HostId.HostId, steps.Actor.Actor, steps.LogId.LogId}
 use Rattle.dcd_codes.specs.declared.rules.Rule.{Rule}
-use Rattle.dcd_base.specs.declared.faults.PayloadFault.{PayloadFault as ManagerFault, PayloadFault as HostFault}
-use Rattle.fm_payloads.specs.declared.requests.FmRequest.{FmRequest}
-use Rattle.fm_payloads.specs.ManagerPayloads.{manager_request}
-use Rattle.host_payloads.specs.declared.requests.HostRequest.{HostRequest}
-use Rattle.host_payloads.specs.HostPayloads.{host_request}
+use Rattle.fm_payloads.specs.{declared.requests.FmRequest.FmRequest, ManagerPayloads.manager_request}
+use Rattle.host_payloads.specs.{declared.requests.HostRequest.HostRequest, HostPayloads.host_request}
 use Rattle.media_map.specs.Places.{run_of}
-use Rattle.region_config.specs.Configurations.{Configuration}
-use Rattle.region_config.specs.Granules.{with_blocks}
-use Rattle.region_config.specs.Soundness.{IsSound}
-use Rattle.journal_core.specs.declared.acts.Act.{Act}
-use Rattle.journal_core.specs.declared.entries.Entry.{Entry}
-use Rattle.journal_core.specs.declared.outcome.Effect.{Effect}
-use Rattle.journal_core.specs.declared.outcome.HeldKind.{HeldKind}
-use Rattle.journal_core.specs.Entries.{EachFrom, effects, fits}
-use Rattle.journal_core.proofs.JournalSteps.{effects-push}
-use Rattle.isolation_laws.specs.device_rules.specs.Adding.{add_outcome, add_rule, is_open_in, offered, too_many_tags}
-use Rattle.isolation_laws.specs.device_rules.specs.Answers.{dropped, effects_with, host_outcome, host_result, host_rule, manager_outcome, manager_result, manager_rule, scrubbed, unless, zeroes}
-use Rattle.isolation_laws.specs.device_rules.specs.Legal.{Legal, Meets, right_answer}
-use Rattle.isolation_laws.specs.device_rules.specs.Logs.{log_of}
-use Rattle.isolation_laws.specs.device_rules.specs.Outcomes.{Outcome, effects_of, log_full}
-use Rattle.isolation_laws.specs.device_rules.specs.ReleaseOutcomes.{give_back_outcome, is_cleaning, is_forced, leaves, removals, remove_outcome, removed}
-use Rattle.isolation_laws.specs.device_rules.specs.ResponseOutcomes.{respond_changes, respond_outcome, unhold}
-use Rattle.isolation_laws.specs.device_rules.specs.TagCommands.{add_reference_outcome, remove_reference_outcome}
-use Rattle.isolation_laws.specs.device_rules.specs.Tags.{is_live, is_referenced, last_offer, open_tags, tag_region}
-use Rattle.isolation_laws.specs.device_rules.specs.Views.{View, extents_in, view_of}
+use Rattle.region_config.specs.{Configurations.Configuration, Granules.with_blocks, Soundness.IsSound}
+use Rattle.journal_core.{proofs.JournalSteps.effects-push, specs.Entries.EachFrom, specs.Entries.effects, specs.Entries.fits, specs.declared.acts.Act.Act, specs.declared.entries.Entry.Entry}
+use Rattle.journal_core.specs.declared.outcome.{Effect.Effect, HeldKind.HeldKind}
+use Rattle.isolation_laws.specs.device_rules.proofs.{Adding.IsAdded, Adding.added, Adding.row_of, Holding.first_is_sound, LegalSound.clear_quiet, LegalSound.dropped_quiet, LegalSound.entry_keeps}
+use Rattle.isolation_laws.specs.device_rules.proofs.{Overlaps.not_broken, Pictures.picture-append}
+use Rattle.isolation_laws.specs.device_rules.proofs.{Quiet.hold_quiet, Quiet.is_quiet, Quiet.quiet_front, Quiet.quiet_picture, Quiet.unhold_quiet, Quiet.zeroes_quiet, Responding.answer_of}
+use Rattle.isolation_laws.specs.device_rules.specs.{Adding.add_outcome, Adding.add_rule, Adding.is_open_in, Adding.offered, Adding.too_many_tags, Legal.Legal, Legal.Meets, Legal.right_answer}
+use Rattle.isolation_laws.specs.device_rules.specs.{Logs.log_of, Outcomes.Outcome, Outcomes.effects_of, Outcomes.log_full}
 use Rattle.isolation_laws.specs.device_rules.specs.Pictures.{Picture, picture_after, picture_of, extents_at}
-use Rattle.isolation_laws.specs.device_rules.specs.Standing.{Sound}
-use Rattle.isolation_laws.specs.device_rules.proofs.Holding.{first_is_sound}
-use Rattle.isolation_laws.specs.device_rules.proofs.LegalSound.{clear_quiet, dropped_quiet, entry_keeps}
-use Rattle.isolation_laws.specs.device_rules.proofs.Overlaps.{not_broken}
+use Rattle.isolation_laws.specs.device_rules.specs.ReleaseOutcomes.{give_back_outcome, is_cleaning, is_forced, leaves, removals, remove_outcome, removed}
+use Rattle.isolation_laws.specs.device_rules.specs.{ResponseOutcomes.respond_changes, ResponseOutcomes.respond_outcome, ResponseOutcomes.unhold, Standing.Sound}
+use Rattle.isolation_laws.specs.device_rules.specs.TagCommands.{add_reference_outcome, remove_reference_outcome}
+use Rattle.isolation_laws.specs.device_rules.specs.{Tags.is_live, Tags.is_referenced, Tags.last_offer, Tags.open_tags, Tags.tag_region, Views.View, Views.extents_in, Views.view_of}
+use Rattle.isolation_laws.specs.device_rules.specs.Answers.{dropped, effects_with, host_outcome, host_result, host_rule, manager_outcome, manager_result, manager_rule, scrubbed, unless, zeroes}
 use Rattle.selection.proofs.Prescribed.{neither}
-use Rattle.isolation_laws.specs.device_rules.proofs.Quiet.{hold_quiet, is_quiet, quiet_front, quiet_picture, unhold_quiet, zeroes_quiet}
-use Rattle.extent_list.specs.ExtentLists.{marked, real_tags}
-use Rattle.extent_list.specs.Listing.{too_many_listed}
+use Rattle.extent_list.specs.{ExtentLists.marked, ExtentLists.real_tags, Listing.too_many_listed}
 use Rattle.offer_core.specs.Responses.{respond_rule, response_list_rule}
-use Rattle.isolation_laws.specs.device_rules.proofs.Adding.{IsAdded, added, row_of}
-use Rattle.isolation_laws.specs.device_rules.proofs.Pictures.{picture-append}
-use Rattle.isolation_laws.specs.device_rules.proofs.Responding.{answer_of}
 use Rattle.plan_rules.proofs.ClosedTags.{AreClosed, IsClosed, IsLess, answer_less, leaves_are, less_self, offer_closed, outcome_less, removals_less}
-use Rattle.plan_rules.proofs.TagsKept.{TagsKept, less_kept, offer_few, outcome_kept}
-use Rattle.dcd_base.specs.Limits.{tags_supported}
-use Rattle.std.proofs.lemmas.List.Elements.{All-contains, All-from_recursion}
-use Rattle.plan_rules.specs.PrivateTags.{PrivateTagsClosed}
+use Rattle.plan_rules.{proofs.TagsKept.TagsKept, proofs.TagsKept.less_kept, proofs.TagsKept.offer_few, proofs.TagsKept.outcome_kept, specs.PrivateTags.PrivateTagsClosed}
 
 module _ (c : Configuration) (sound : IsSound c) (journal : List Entry) (before : Sound c (picture_of c (effects journal))) (kept : TagsKept c (picture_of c (effects journal))) where
   abbrev past : List Effect

@@ -1,53 +1,23 @@
 -- What the two acts leave by which a host gains blocks of a region: they are offered, and the offer is taken whole.
 use Rattle.std.proofs.Common.{◌≡◌, ℕ, ◌+◌, ◌*◌, ◌^◌, ◌<◌, ◌≤◌, false, ◌==◌, List, [], ◌∷◌, ◌++◌, length, map, refl, sym, ap, subst, ◌∙◌, append-nil, arith, ◌/◌, inl, inr, Bool}
-use Rattle.std.specs.Prelude.{drop, flat_map, if◌then◌else◌, sum_by, take}
-use Rattle.std.specs.List.{AllByRecursion, filter}
-use Rattle.std.specs.declared.result.Result.TheVariants.{Ok}
-use Rattle.std.proofs.lemmas.Bool.{cases_Bool, cases_eq, eq-eqb, eqb-true, ne_eqb}
-use Rattle.std.proofs.Math.Nat.{mul-div_cancel, mul-le-mul_right}
-use Rattle.std.proofs.lemmas.List.{length-append, length-map}
-use Rattle.std.proofs.lemmas.List.Elements.{filter-append}
-use Rattle.std.proofs.lemmas.List.Sums.{sum_by-append}
-use Rattle.dcd_base.specs.declared.capacity.Extent.{Extent}
-use Rattle.dcd_base.specs.declared.ids.HostId.{HostId}
-use Rattle.dcd_base.specs.Words.{zero_tag}
+use Rattle.std.proofs.{Math.Nat.mul-div_cancel, Math.Nat.mul-le-mul_right, lemmas.Bool.cases_Bool, lemmas.Bool.cases_eq, lemmas.Bool.eq-eqb, lemmas.Bool.eqb-true, lemmas.Bool.ne_eqb}
+use Rattle.std.proofs.lemmas.List.{length-append, length-map, Elements.filter-append, Sums.sum_by-append}
+use Rattle.std.specs.{List.AllByRecursion, List.filter, Prelude.drop, Prelude.flat_map, Prelude.if◌then◌else◌, Prelude.sum_by, Prelude.take, declared.result.Result.TheVariants.Ok}
+use Rattle.dcd_base.specs.{declared.capacity.Extent.Extent, declared.ids.HostId.HostId, Words.zero_tag, Layouts.spelling}
 use Rattle.cci_codec.specs.declared.messages.Request.{Request}
-use Rattle.dcd_base.specs.Layouts.{spelling}
-use Rattle.fm_payloads.specs.ManagerPayloads.{manager_fields}
-use Rattle.fm_payloads.specs.declared.requests.FmRequest.{FmRequest}
-use Rattle.host_payloads.specs.HostPayloads.{FitsListed, host_fields}
-use Rattle.host_payloads.specs.declared.requests.HostRequest.{HostRequest}
+use Rattle.fm_payloads.specs.{ManagerPayloads.manager_fields, declared.requests.FmRequest.FmRequest}
+use Rattle.host_payloads.specs.{HostPayloads.FitsListed, HostPayloads.host_fields, declared.requests.HostRequest.HostRequest}
 use Rattle.offer_core.specs.Offerings.{oldest_of}
-use Rattle.region_config.specs.Configurations.{Configuration}
-use Rattle.region_config.specs.Soundness.{IsSound}
+use Rattle.region_config.specs.{Configurations.Configuration, Soundness.IsSound, Granules.region_spec}
 use Rattle.media_map.specs.Places.{region_at}
-use Rattle.journal_core.specs.Entries.{effects}
-use Rattle.journal_core.specs.Holders.{holds}
-use Rattle.journal_core.specs.declared.outcome.Effect.{Effect}
-use Rattle.journal_core.specs.declared.outcome.HeldKind.{HeldKind}
-use Rattle.journal_core.specs.declared.entries.Entry.{Entry}
-use Rattle.isolation_laws.specs.device_rules.specs.Hosts.{accepted_of, block_of, held_of, offers_of}
-use Rattle.isolation_laws.specs.device_rules.specs.Legal.{Legal}
-use Rattle.isolation_laws.specs.device_rules.specs.Tags.{region_of_offer}
-use Rattle.isolation_laws.specs.device_rules.proofs.Homes.{supported_some}
-use Rattle.region_config.specs.Granules.{region_spec}
-use Rattle.isolation_laws.specs.device_rules.proofs.ListSteps.{each-back, each-change, each-front}
-use Rattle.isolation_laws.specs.device_rules.specs.Pictures.{picture_of}
-use Rattle.isolation_laws.specs.device_rules.specs.Standing.{IsHome}
-use Rattle.isolation_laws.specs.device_rules.proofs.LegalSound.{legal_is_sound}
+use Rattle.journal_core.specs.{Entries.effects, Holders.holds, declared.outcome.Effect.Effect, declared.outcome.HeldKind.HeldKind, declared.entries.Entry.Entry}
+use Rattle.isolation_laws.specs.device_rules.proofs.{Homes.supported_some, LegalSound.legal_is_sound, ListSteps.each-back, ListSteps.each-change, ListSteps.each-front}
+use Rattle.isolation_laws.specs.device_rules.specs.{Hosts.accepted_of, Hosts.block_of, Hosts.held_of, Hosts.offers_of, Legal.Legal, Pictures.picture_of, Standing.IsHome, Tags.region_of_offer}
+use Rattle.plan_rules.proofs.{Acts.behind_is, Filters.fewer, FreeOffers.offers_free_blocks, Heard.IsHeard, Heard.add_heard, Heard.response_heard, PartsGivenBack.ends_low}
+use Rattle.plan_rules.proofs.{UnbrokenActs.host_legal, UnbrokenActs.manager_legal, WholeOffers.takes_whole_offers}
+use Rattle.plan_rules.specs.{ActsLeft.BytesCome, ActsLeft.IsPlain, ActsLeft.Unbroken, ActsLeft.journal_behind, ActsLeft.offering, ActsLeft.providing, Holding.extents_in_region, Holding.stepped}
+use Rattle.plan_rules.specs.{Kept.KeepsOthers, Kept.bytes_in, Listing.listed, Listing.offer_taken, Taking.IsOfferTaken, Taking.IsOfferedFree, Taking.blocks_free_now, Taking.free_offer_of}
 use Rattle.plan_rules.specs.declared.demands.Demand.{Demand}
-use Rattle.plan_rules.specs.Kept.{KeepsOthers, bytes_in}
-use Rattle.plan_rules.specs.Listing.{listed, offer_taken}
-use Rattle.plan_rules.specs.Taking.{IsOfferTaken, IsOfferedFree, blocks_free_now, free_offer_of}
-use Rattle.plan_rules.proofs.Filters.{fewer}
-use Rattle.plan_rules.proofs.FreeOffers.{offers_free_blocks}
-use Rattle.plan_rules.proofs.WholeOffers.{takes_whole_offers}
-use Rattle.plan_rules.specs.Holding.{extents_in_region, stepped}
-use Rattle.plan_rules.specs.ActsLeft.{BytesCome, IsPlain, Unbroken, journal_behind, offering, providing}
-use Rattle.plan_rules.proofs.Acts.{behind_is}
-use Rattle.plan_rules.proofs.PartsGivenBack.{ends_low}
-use Rattle.plan_rules.proofs.Heard.{IsHeard, add_heard, response_heard}
-use Rattle.plan_rules.proofs.UnbrokenActs.{host_legal, manager_legal}
 
 -- what changes one host's lists, twice
 others_then : (c : Configuration) (h : HostId) (first second third : List Effect) → KeepsOthers c h first second → KeepsOthers c h second third → KeepsOthers c h first third

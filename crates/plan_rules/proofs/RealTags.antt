@@ -1,15 +1,11 @@
 -- Extents whose tags others have too have no more tags.
 use Rattle.std.proofs.Common.{◌≡◌, ◌<◌, ◌≤◌, Bool, true, false, not, ◌||◌, List, [], ◌∷◌, ◌++◌, length, map, refl, ap, sym, ◌∙◌, inl, inr, arith}
-use Rattle.std.specs.Prelude.{fold, if◌then◌else◌}
-use Rattle.std.specs.List.{filter}
+use Rattle.std.{specs.Prelude.fold, specs.Prelude.if◌then◌else◌, specs.List.filter, proofs.lemmas.List.Folds.list_any-append}
 use Rattle.std.proofs.lemmas.Bool.{cases_Bool, false≢true, false_from_ne_true, not-true, not_from_false, or_from, or_left, or_parts, or_right}
-use Rattle.std.proofs.lemmas.List.Folds.{list_any-append}
-use Rattle.dcd_base.specs.Words.{has_tag, is_zero_tag, same_tag}
-use Rattle.dcd_base.specs.declared.capacity.Extent.{Extent}
-use Rattle.dcd_base.specs.declared.capacity.Tag.{Tag}
+use Rattle.dcd_base.specs.{Words.has_tag, Words.is_zero_tag, Words.same_tag, declared.capacity.Extent.Extent, declared.capacity.Tag.Tag}
 use Rattle.extent_list.specs.ExtentLists.{has_extent_of, real_tags, tags_of}
-use Rattle.isolation_laws.specs.device_rules.proofs.TagSteps.{has_tag-filter, has_tag-kept, same_tag-back, same_tag-is, same_tag-self, without_tag}
 use Rattle.isolation_laws.specs.device_rules.proofs.OneAnswer.{tags_of-has}
+use Rattle.isolation_laws.specs.device_rules.proofs.TagSteps.{has_tag-filter, has_tag-kept, same_tag-back, same_tag-is, same_tag-self, without_tag}
 
 -- ---- lists without a tag twice
 

@@ -1,44 +1,22 @@
 -- What a removal by force leaves of all extents that a host has in a region.
 use Rattle.std.proofs.Common.{◌≡◌, ℕ, ◌<◌, ◌≤◌, Bool, true, false, ◌==◌, List, [], ◌∷◌, length, map, Option, Some, None, refl, sym, ap, subst, ◌∙◌, arith}
-use Rattle.std.specs.List.{AllByRecursion, list_all}
-use Rattle.std.specs.Prelude.{nat_lt}
-use Rattle.std.specs.declared.result.Result.TheVariants.{Ok}
-use Rattle.std.specs.Result.{result_err}
-use Rattle.std.proofs.lemmas.Bool.{and_parts, eqb-true, ltb-false, ltb-true}
-use Rattle.std.proofs.lemmas.List.{length-map}
-use Rattle.dcd_base.specs.declared.capacity.Extent.{Extent}
-use Rattle.dcd_base.specs.declared.ids.HostId.{HostId}
-use Rattle.dcd_base.specs.declared.steps.LogId.{LogId}
-use Rattle.dcd_base.specs.Words.{zero_tag}
-use Rattle.dcd_codes.specs.Rules.{◌breaks◌}
-use Rattle.dcd_codes.specs.declared.rules.Rule.{Rule}
+use Rattle.std.proofs.lemmas.{Bool.and_parts, Bool.eqb-true, Bool.ltb-false, Bool.ltb-true, List.length-map}
+use Rattle.std.specs.{List.AllByRecursion, List.list_all, Prelude.nat_lt, Result.result_err, declared.result.Result.TheVariants.Ok}
+use Rattle.dcd_base.specs.{declared.capacity.Extent.Extent, declared.ids.HostId.HostId, declared.steps.LogId.LogId, Words.zero_tag, Layouts.spelling}
+use Rattle.dcd_codes.specs.{Rules.◌breaks◌, declared.rules.Rule.Rule}
 use Rattle.cci_codec.specs.declared.messages.Request.{Request}
 use Rattle.event_log.specs.Logs.{room_in}
 use Rattle.extent_list.specs.ExtentLists.{marked}
-use Rattle.dcd_base.specs.Layouts.{spelling}
-use Rattle.fm_payloads.specs.ManagerPayloads.{manager_fields, manager_request}
-use Rattle.fm_payloads.specs.declared.requests.FmRequest.{FmRequest}
-use Rattle.region_config.specs.Configurations.{Configuration}
-use Rattle.region_config.specs.Soundness.{IsSound}
-use Rattle.region_config.proofs.Searches.{or_parts as option_parts}
+use Rattle.fm_payloads.specs.{ManagerPayloads.manager_fields, ManagerPayloads.manager_request, declared.requests.FmRequest.FmRequest}
+use Rattle.region_config.{specs.Configurations.Configuration, specs.Soundness.IsSound, proofs.Searches.or_parts as option_parts}
 use Rattle.media_map.specs.Places.{region_at}
-use Rattle.journal_core.specs.Entries.{effects}
-use Rattle.journal_core.specs.declared.entries.Entry.{Entry}
-use Rattle.isolation_laws.specs.device_rules.specs.Answers.{manager_outcome, manager_result, manager_rule, unless}
-use Rattle.isolation_laws.specs.device_rules.specs.Hosts.{accepted_of}
-use Rattle.isolation_laws.specs.device_rules.specs.Legal.{Legal}
-use Rattle.isolation_laws.specs.device_rules.specs.Logs.{log_of}
-use Rattle.isolation_laws.specs.device_rules.specs.Outcomes.{Outcome}
-use Rattle.isolation_laws.specs.device_rules.specs.Views.{view_of}
-use Rattle.isolation_laws.specs.device_rules.proofs.ListSteps.{each-both}
-use Rattle.isolation_laws.specs.device_rules.proofs.Overlaps.{not_broken}
-use Rattle.plan_rules.proofs.Emptying.{empties_regions}
-use Rattle.plan_rules.specs.Holding.{extents_in_region}
-use Rattle.plan_rules.specs.ActsLeft.{RegionLeft, Unbroken, emptying, journal_behind}
-use Rattle.plan_rules.proofs.Acts.{behind_is}
-use Rattle.plan_rules.proofs.PartsGivenBack.{EndsLow, each_filter, region_few, region_low}
-use Rattle.plan_rules.proofs.RemovalHeard.{IsTellable, removal_heard}
-use Rattle.plan_rules.proofs.ToldExtents.{accepted_tellable, is_tellable, legal_told}
+use Rattle.journal_core.specs.{Entries.effects, declared.entries.Entry.Entry}
+use Rattle.isolation_laws.specs.device_rules.proofs.{ListSteps.each-both, Overlaps.not_broken}
+use Rattle.isolation_laws.specs.device_rules.specs.{Answers.manager_outcome, Answers.manager_result, Answers.manager_rule, Answers.unless, Hosts.accepted_of, Legal.Legal, Logs.log_of}
+use Rattle.isolation_laws.specs.device_rules.specs.{Outcomes.Outcome, Views.view_of}
+use Rattle.plan_rules.proofs.{Acts.behind_is, Emptying.empties_regions, PartsGivenBack.EndsLow, PartsGivenBack.each_filter, PartsGivenBack.region_few, PartsGivenBack.region_low}
+use Rattle.plan_rules.proofs.{RemovalHeard.IsTellable, RemovalHeard.removal_heard, ToldExtents.accepted_tellable, ToldExtents.is_tellable, ToldExtents.legal_told}
+use Rattle.plan_rules.specs.{ActsLeft.RegionLeft, ActsLeft.Unbroken, ActsLeft.emptying, ActsLeft.journal_behind, Holding.extents_in_region}
 
 -- ---- lists
 

@@ -1,20 +1,11 @@
 -- A removal of listed extents is read as what it says, whatever tags of sixteen numbers the extents have.
 use Rattle.std.proofs.Common.{◌≡◌, ℕ, ◌+◌, ◌-◌, ◌*◌, ◌/◌, ◌%◌, ◌^◌, ◌<◌, List, [], ◌∷◌, ◌++◌, length, map, flat_map, take, drop, Ok, refl, sym, ap, ◌∙◌, arith}
-use Rattle.std.specs.Int.{from_le_bytes, to_le_bytes, w16, w32}
+use Rattle.std.{proofs.Math.Seq.drop-append_seam, proofs.Math.Seq.take-append_seam, proofs.lemmas.List.length-append, specs.Int.from_le_bytes, specs.Int.to_le_bytes, specs.Int.w16, specs.Int.w32}
 use Rattle.std.specs.List.{AllByRecursion}
-use Rattle.std.proofs.lemmas.List.{length-append}
-use Rattle.std.proofs.Math.Seq.{drop-append_seam, take-append_seam}
-use Rattle.dcd_base.specs.declared.capacity.Extent.{Extent}
-use Rattle.dcd_base.specs.Words.{zero_tag}
-use Rattle.dcd_base.specs.Extents.{extent_fields, whole_extent}
-use Rattle.dcd_base.specs.Layouts.{number_at, pieces, spelling}
-use Rattle.dcd_base.proofs.PayloadLengths.{counted_at, sized_at}
-use Rattle.dcd_base.proofs.Pieces.{spelling_each}
-use Rattle.dcd_base.proofs.WholeExtents.{same_extent}
-use Rattle.dcd_base.proofs.Widths.{wide_16, wide_32, wide_64}
+use Rattle.dcd_base.proofs.{PayloadLengths.counted_at, PayloadLengths.sized_at, Pieces.spelling_each, WholeExtents.same_extent, Widths.wide_16, Widths.wide_32, Widths.wide_64}
+use Rattle.dcd_base.specs.{Extents.extent_fields, Extents.whole_extent, Layouts.number_at, Layouts.pieces, Layouts.spelling, Words.zero_tag, declared.capacity.Extent.Extent}
 use Rattle.fm_payloads.specs.ManagerPayloads.{made_of, manager_fields, manager_request, placed_in, placed_length, to_remove, whole_extents}
-use Rattle.fm_payloads.specs.declared.placing.Placed.{Placed}
-use Rattle.fm_payloads.specs.declared.requests.FmRequest.{FmRequest}
+use Rattle.fm_payloads.specs.declared.{placing.Placed.Placed, requests.FmRequest.FmRequest}
 
 -- The extent's numbers and its tag have their widths.
 pub record IsTellable (x : Extent) : Type 0 where

@@ -1,28 +1,15 @@
 -- What is to be gained is no more than a region has.
 use Rattle.std.proofs.Common.{◌≡◌, ℕ, ◌*◌, ◌/◌, ◌^◌, ◌<◌, ◌≤◌, Bool, true, not, ◌==◌, List, length, get_or, refl, sym, ap, subst, ◌∙◌, arith, div-add-mod'}
-use Rattle.std.specs.Prelude.{if◌then◌else◌}
-use Rattle.std.specs.List.{AllByRecursion, filter, range_with_len}
-use Rattle.std.proofs.lemmas.Bool.{eq-eqb}
-use Rattle.std.proofs.lemmas.List.Filters.{length-filter_both}
-use Rattle.std.proofs.lemmas.List.Sums.{get_or-le-sum_by}
-use Rattle.std.proofs.lemmas.List.FromFn.{length-range_with_len}
-use Rattle.std.proofs.Math.Nat.{div-mul-le_self, mul-le-mul_right, mul_assoc}
+use Rattle.std.proofs.{Math.Nat.div-mul-le_self, Math.Nat.mul-le-mul_right, Math.Nat.mul_assoc, lemmas.Bool.eq-eqb, lemmas.List.Filters.length-filter_both, lemmas.List.FromFn.length-range_with_len}
+use Rattle.std.{proofs.lemmas.List.Sums.get_or-le-sum_by, specs.List.AllByRecursion, specs.List.filter, specs.List.range_with_len, specs.Prelude.if◌then◌else◌}
 use Rattle.dcd_base.specs.declared.media.Run.{Run}
-use Rattle.region_config.specs.Configurations.{Configuration}
-use Rattle.region_config.specs.Granules.{granule_size, is_supported, region_granules, region_spec, with_blocks}
-use Rattle.region_config.specs.Soundness.{IsSound}
-use Rattle.region_config.proofs.Faultless.{lengths_of_sound}
-use Rattle.region_config.proofs.PresentBlocks.{granules_in-with_blocks, region_spec-with_blocks}
+use Rattle.region_config.{proofs.Faultless.lengths_of_sound, proofs.PresentBlocks.granules_in-with_blocks, proofs.PresentBlocks.region_spec-with_blocks, specs.Configurations.Configuration}
+use Rattle.region_config.specs.{Granules.granule_size, Granules.is_supported, Granules.region_granules, Granules.region_spec, Granules.with_blocks, Soundness.IsSound}
 use Rattle.journal_core.specs.declared.outcome.Effect.{Effect}
 use Rattle.granule_map.specs.Blocks.{block_count}
 use Rattle.selection.specs.Selections.{is_free_block}
-use Rattle.isolation_laws.specs.device_rules.specs.Adding.{area_of, per_block, region_free_blocks}
-use Rattle.isolation_laws.specs.device_rules.proofs.Homes.{size_same, supported_whole}
-use Rattle.plan_rules.specs.declared.demands.Demand.{Demand}
-use Rattle.plan_rules.specs.declared.demands.Demands.{Demands}
-use Rattle.plan_rules.specs.Holding.{gain}
-use Rattle.plan_rules.specs.Planning.{need_in, no_demand}
-use Rattle.plan_rules.proofs.WithoutFault.{by_index}
+use Rattle.isolation_laws.specs.device_rules.{specs.Adding.area_of, specs.Adding.per_block, specs.Adding.region_free_blocks, proofs.Homes.size_same, proofs.Homes.supported_whole}
+use Rattle.plan_rules.{specs.declared.demands.Demand.Demand, specs.declared.demands.Demands.Demands, specs.Holding.gain, specs.Planning.need_in, specs.Planning.no_demand, proofs.WithoutFault.by_index}
 
 few_pass : (test : ℕ → Bool) (n : ℕ) → length (filter test (range_with_len 0 n)) ≤ n
 few_pass test n = omega (arith, length-filter_both test (λ k. not (test k)) (λ k. refl) (range_with_len 0 n), length-range_with_len 0 n)

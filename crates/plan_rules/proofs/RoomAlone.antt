@@ -1,38 +1,19 @@
 -- An offer of free blocks of which there are enough is refused for want of room alone.
 use Rattle.std.proofs.Common.{◌≡◌, ℕ, ◌+◌, ◌/◌, ◌%◌, Bool, true, false, not, ◌&&◌, ◌||◌, ◌==◌, List, [], ◌++◌, length, None, Some, refl, ap, sym, ◌∙◌, inl, inr, arith, leb, ltb}
+use Rattle.std.proofs.lemmas.{Bool.cases_Bool, Bool.eq-eqb, Bool.false≢true, Bool.le-ltb, Bool.lt-leb, Bool.ne_eqb, List.Folds.list_any-append}
 use Rattle.std.specs.Prelude.{Option}
-use Rattle.std.proofs.lemmas.Bool.{cases_Bool, eq-eqb, false≢true, le-ltb, lt-leb, ne_eqb}
-use Rattle.std.proofs.lemmas.List.Folds.{list_any-append}
-use Rattle.dcd_base.specs.Words.{◌or◌, is_zero_tag, same_tag, zero_tag}
-use Rattle.dcd_base.specs.declared.capacity.Extent.{Extent}
-use Rattle.dcd_base.specs.declared.capacity.Tag.{Tag}
-use Rattle.dcd_base.specs.declared.ids.HostId.{HostId}
+use Rattle.dcd_base.specs.{Words.◌or◌, Words.is_zero_tag, Words.same_tag, Words.zero_tag, declared.capacity.Extent.Extent, declared.capacity.Tag.Tag, declared.ids.HostId.HostId}
 use Rattle.dcd_base.specs.declared.steps.LogId.{LogId}
-use Rattle.dcd_codes.specs.Rules.{◌breaks◌}
-use Rattle.dcd_codes.specs.declared.rules.Rule.{Rule}
-use Rattle.extent_list.specs.ExtentLists.{has_extent_of, real_tags}
-use Rattle.extent_list.specs.Listing.{too_many_extents}
-use Rattle.region_config.proofs.PresentBlocks.{region_spec-with_blocks}
-use Rattle.region_config.specs.Configurations.{Configuration}
-use Rattle.region_config.specs.Granules.{region_spec}
-use Rattle.region_config.specs.Soundness.{IsSound}
+use Rattle.dcd_codes.specs.{Rules.◌breaks◌, declared.rules.Rule.Rule}
+use Rattle.extent_list.specs.{ExtentLists.has_extent_of, ExtentLists.real_tags, Listing.too_many_extents}
+use Rattle.region_config.{proofs.PresentBlocks.region_spec-with_blocks, specs.Configurations.Configuration, specs.Granules.region_spec, specs.Soundness.IsSound}
 use Rattle.selection.specs.Selections.{free_runs, too_few_free}
-use Rattle.journal_core.specs.Entries.{effects}
-use Rattle.journal_core.specs.declared.entries.Entry.{Entry}
-use Rattle.journal_core.specs.declared.outcome.Effect.{Effect}
+use Rattle.journal_core.specs.{Entries.effects, declared.entries.Entry.Entry, declared.outcome.Effect.Effect}
 use Rattle.isolation_laws.specs.device_rules.specs.Adding.{add_rule, area_of, by_length_rule, extents_of, is_free_now, per_block, present, region_free_blocks, too_many_tags}
-use Rattle.isolation_laws.specs.device_rules.specs.Hosts.{block_of}
-use Rattle.isolation_laws.specs.device_rules.specs.Legal.{Legal}
-use Rattle.isolation_laws.specs.device_rules.specs.Logs.{log_of}
-use Rattle.isolation_laws.specs.device_rules.specs.Outcomes.{log_full}
-use Rattle.isolation_laws.specs.device_rules.specs.Views.{extents_in, view_of}
-use Rattle.isolation_laws.specs.device_rules.proofs.ListSteps.{each-at}
-use Rattle.isolation_laws.specs.device_rules.proofs.TagSteps.{same_tag-is}
-use Rattle.isolation_laws.specs.device_rules.proofs.AddChoices.{marked_tags}
+use Rattle.isolation_laws.specs.device_rules.{proofs.AddChoices.marked_tags, proofs.ListSteps.each-at, proofs.TagSteps.same_tag-is, specs.Hosts.block_of, specs.Legal.Legal, specs.Logs.log_of}
+use Rattle.isolation_laws.specs.device_rules.specs.{Outcomes.log_full, Views.extents_in, Views.view_of}
+use Rattle.plan_rules.proofs.{Emptying.none_of_two, Emptying.unbroken, PrivateTags.legal_keeps_tags, RealTags.real_few}
 use Rattle.plan_rules.specs.Taking.{CanBeOfferedFree, OnlyRoomIsWanting, free_offer_of}
-use Rattle.plan_rules.proofs.Emptying.{none_of_two, unbroken}
-use Rattle.plan_rules.proofs.PrivateTags.{legal_keeps_tags}
-use Rattle.plan_rules.proofs.RealTags.{real_few}
 
 -- a row of which but two rules are kept
 two_left : (front first kept last : Option Rule) → front ≡ None → kept ≡ None → (((front or first) or kept) or last) ≡ (first or last)

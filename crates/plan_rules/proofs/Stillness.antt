@@ -1,28 +1,15 @@
 -- What stays of a host in one region, and whose granules it holds there.
 use Rattle.std.proofs.Common.{◌≡◌, ◌≢◌, ℕ, ◌<◌, false, ◌||◌, ◌==◌, List, [], ◌∷◌, ◌++◌, map, refl, sym, ap, subst, ◌∙◌, inl, inr}
-use Rattle.std.specs.List.{AllByRecursion, filter}
 use Rattle.std.proofs.lemmas.Bool.{cases_Bool, cases_eq, cases_lt, eq-eqb, false≢true, false_from_ne_true}
-use Rattle.dcd_base.specs.declared.capacity.Extent.{Extent}
-use Rattle.dcd_base.specs.declared.ids.HostId.{HostId}
-use Rattle.dcd_base.specs.Words.{has_granule, has_in_runs}
-use Rattle.region_config.specs.Configurations.{Configuration}
-use Rattle.region_config.specs.Granules.{region_of}
-use Rattle.region_config.specs.Soundness.{IsSound}
+use Rattle.std.specs.List.{AllByRecursion, filter}
+use Rattle.dcd_base.specs.{declared.capacity.Extent.Extent, declared.ids.HostId.HostId, Words.has_granule, Words.has_in_runs}
+use Rattle.region_config.specs.{Configurations.Configuration, Granules.region_of, Soundness.IsSound}
 use Rattle.media_map.specs.Places.{region_at, run_of}
-use Rattle.journal_core.specs.Entries.{effects}
-use Rattle.journal_core.specs.Holders.{holds}
-use Rattle.journal_core.specs.declared.outcome.Effect.{Effect}
-use Rattle.journal_core.specs.declared.outcome.HeldKind.{HeldKind}
-use Rattle.journal_core.specs.declared.entries.Entry.{Entry}
-use Rattle.isolation_laws.specs.device_rules.specs.Hosts.{accepted_of, block_of, held_of, offers_of}
-use Rattle.isolation_laws.specs.device_rules.specs.Legal.{Legal}
-use Rattle.isolation_laws.specs.device_rules.specs.Pictures.{Picture, picture_of}
+use Rattle.journal_core.specs.{Entries.effects, Holders.holds, declared.outcome.Effect.Effect, declared.outcome.HeldKind.HeldKind, declared.entries.Entry.Entry}
+use Rattle.isolation_laws.specs.device_rules.proofs.{Homes.made_of_region, Homes.made_region, Homes.supported_whole, LegalSound.legal_is_sound}
+use Rattle.isolation_laws.specs.device_rules.specs.{Hosts.accepted_of, Hosts.block_of, Hosts.held_of, Hosts.offers_of, Legal.Legal, Pictures.Picture, Pictures.picture_of}
 use Rattle.isolation_laws.specs.device_rules.specs.Standing.{IsHome, Sound}
-use Rattle.isolation_laws.specs.device_rules.proofs.Homes.{made_of_region, made_region, supported_whole}
-use Rattle.isolation_laws.specs.device_rules.proofs.LegalSound.{legal_is_sound}
-use Rattle.plan_rules.specs.Kept.{KeepsHost, KeepsHosts, KeepsOthers}
-use Rattle.plan_rules.specs.Holding.{extents_in_region}
-use Rattle.plan_rules.specs.ActsLeft.{ChangesOnly}
+use Rattle.plan_rules.specs.{Kept.KeepsHost, Kept.KeepsHosts, Kept.KeepsOthers, Holding.extents_in_region, ActsLeft.ChangesOnly}
 
 -- The host has the same extents and granules in the region, the same offers and the same held lists, and the block sizes are the same.
 pub record Still (c : Configuration) (h : HostId) (r : ℕ) (before after : List Effect) : Type 0 where

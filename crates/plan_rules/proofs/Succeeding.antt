@@ -1,40 +1,22 @@
 -- Where a plan has no fault, each act of its list is answered Success.
 use Rattle.std.proofs.Common.{◌≡◌, ℕ, zero, suc, ◌<◌, Bool, true, ◌&&◌, List, [], ◌∷◌, ◌++◌, length, Option, Some, None, refl, sym, ap, subst, ◌∙◌, append_assoc, append-nil, arith}
 use Rattle.std.specs.Prelude.{All, false, replicate, IsTrue, drop, flat_map, if◌then◌else◌, is_some, map, option_and_then, option_map, ◌==◌}
-use Rattle.std.specs.List.{find, list_all, range_with_len}
-use Rattle.std.specs.Result.{result_err}
-use Rattle.std.specs.declared.result.Result.{Result}
-use Rattle.std.specs.declared.result.Result.TheVariants.{Ok, Err}
-use Rattle.std.proofs.Math.Seq.{drop-append_seam}
-use Rattle.std.proofs.lemmas.Bool.{and_parts}
-use Rattle.std.proofs.lemmas.List.Elements.{All-cons, All-nil}
-use Rattle.std.proofs.lemmas.List.Folds.{list_all-append}
-use Rattle.dcd_base.specs.Words.{◌or◌, is_empty}
-use Rattle.dcd_base.specs.declared.ids.HostId.{HostId}
-use Rattle.dcd_base.specs.declared.steps.LogId.{LogId}
+use Rattle.std.proofs.{Math.Seq.drop-append_seam, lemmas.Bool.and_parts, lemmas.List.Elements.All-cons, lemmas.List.Elements.All-nil, lemmas.List.Folds.list_all-append}
+use Rattle.std.specs.{List.find, List.list_all, List.range_with_len, Result.result_err, declared.result.Result.Result, declared.result.Result.TheVariants.Ok, declared.result.Result.TheVariants.Err}
+use Rattle.dcd_base.specs.{Words.◌or◌, Words.is_empty, declared.ids.HostId.HostId, declared.steps.LogId.LogId, declared.steps.Actor.Actor}
 use Rattle.event_records.specs.declared.events.Event.{Event}
-use Rattle.dcd_base.specs.declared.steps.Actor.{Actor}
 use Rattle.dcd_codes.specs.declared.rules.Rule.{Rule}
 use Rattle.cci_codec.specs.declared.messages.Request.{Request}
 use Rattle.media_map.proofs.PlaceLemmas.{none_found}
-use Rattle.region_config.specs.Configurations.{Configuration}
-use Rattle.region_config.specs.Granules.{regions_of}
-use Rattle.journal_core.specs.Entries.{effects}
-use Rattle.journal_core.specs.declared.acts.Act.{Act}
-use Rattle.journal_core.specs.declared.entries.Entry.{Entry}
-use Rattle.journal_core.specs.declared.outcome.Effect.{Effect}
-use Rattle.isolation_laws.specs.device_rules.specs.Answers.{answer, broken, host_result_in, manager_result, reply_with}
-use Rattle.isolation_laws.specs.device_rules.specs.Outcomes.{Outcome}
-use Rattle.isolation_laws.specs.device_rules.specs.Views.{view_of}
-use Rattle.isolation_laws.specs.device_rules.specs.Counts.{dirty_count, records_of}
-use Rattle.isolation_laws.specs.device_rules.specs.Hosts.{offers_of}
+use Rattle.region_config.specs.{Configurations.Configuration, Granules.regions_of}
+use Rattle.journal_core.specs.{Entries.effects, declared.acts.Act.Act, declared.entries.Entry.Entry, declared.outcome.Effect.Effect}
+use Rattle.isolation_laws.specs.device_rules.specs.{Answers.answer, Answers.broken, Answers.host_result_in, Answers.manager_result, Answers.reply_with, Counts.dirty_count, Counts.records_of}
+use Rattle.isolation_laws.specs.device_rules.specs.{Hosts.offers_of, Outcomes.Outcome, Views.view_of}
 use Rattle.fm_payloads.specs.ManagerPayloads.{manager_request}
-use Rattle.plan_rules.specs.declared.demands.Demand.{Demand}
-use Rattle.plan_rules.specs.declared.demands.Demands.{Demands}
 use Rattle.plan_rules.specs.Holding.{Step, entry_of_step, extents_in_region, gain, is_planned_step, stepped, surplus}
-use Rattle.plan_rules.specs.Listing.{refusal_step, clearing, gained, gaining, give_back_surplus, let_go, losing, planned, ready, refusals, removal, zeroing}
-use Rattle.plan_rules.specs.Planning.{AllSucceed, broken_at, is_success, plan_fault, refused_in}
+use Rattle.plan_rules.specs.{Planning.AllSucceed, Planning.broken_at, Planning.is_success, Planning.plan_fault, Planning.refused_in, declared.demands.Demand.Demand, declared.demands.Demands.Demands}
 use Rattle.plan_rules.specs.declared.faults.PlanFault.{PlanFault}
+use Rattle.plan_rules.specs.Listing.{refusal_step, clearing, gained, gaining, give_back_surplus, let_go, losing, planned, ready, refusals, removal, zeroing}
 
 -- ---- small steps
 

@@ -1,26 +1,15 @@
 -- What every legal journal keeps of the tags of the hosts' extents, whatever a command does.
 use Rattle.std.proofs.Common.{◌≡◌, ◌≤◌, true, ◌==◌, List, [], ◌∷◌, ◌++◌, length, refl, ap, sym, subst, ◌∙◌, inl, inr, arith, append_assoc}
-use Rattle.std.specs.Prelude.{flat_map}
-use Rattle.std.proofs.lemmas.Bool.{and_parts, cases_Bool, eqb-true}
-use Rattle.dcd_base.specs.Limits.{tags_supported}
-use Rattle.dcd_base.specs.Words.{has_tag, same_tag}
-use Rattle.dcd_base.specs.declared.capacity.Extent.{Extent}
-use Rattle.dcd_base.specs.declared.capacity.Tag.{Tag}
-use Rattle.dcd_base.specs.declared.ids.HostId.{HostId}
+use Rattle.std.{specs.Prelude.flat_map, proofs.lemmas.Bool.and_parts, proofs.lemmas.Bool.cases_Bool, proofs.lemmas.Bool.eqb-true}
+use Rattle.dcd_base.specs.{Limits.tags_supported, Words.has_tag, Words.same_tag, declared.capacity.Extent.Extent, declared.capacity.Tag.Tag, declared.ids.HostId.HostId}
 use Rattle.extent_list.specs.ExtentLists.{has_extent_of, lies_in, real_tags}
-use Rattle.region_config.specs.Configurations.{Configuration}
-use Rattle.region_config.specs.Soundness.{IsSound}
+use Rattle.region_config.specs.{Configurations.Configuration, Soundness.IsSound}
 use Rattle.journal_core.specs.declared.outcome.Effect.{Effect}
-use Rattle.isolation_laws.specs.device_rules.specs.Outcomes.{Outcome, effects_of, ended}
-use Rattle.isolation_laws.specs.device_rules.proofs.ListSteps.{each-at, flat-push}
+use Rattle.isolation_laws.specs.device_rules.proofs.{ListSteps.each-at, ListSteps.flat-push, OneOffer.any-implies, Pictures.picture-outcome}
 use Rattle.isolation_laws.specs.device_rules.proofs.TagSteps.{open_before, same_tag-is, without_tags}
-use Rattle.isolation_laws.specs.device_rules.specs.Pictures.{Picture, extents_at, picture_after, picture_of}
+use Rattle.isolation_laws.specs.device_rules.specs.{Outcomes.Outcome, Outcomes.effects_of, Outcomes.ended, Pictures.Picture, Pictures.extents_at, Pictures.picture_after, Pictures.picture_of}
 use Rattle.isolation_laws.specs.device_rules.specs.Standing.{Sound}
-use Rattle.isolation_laws.specs.device_rules.proofs.OneOffer.{any-implies}
-use Rattle.isolation_laws.specs.device_rules.proofs.Pictures.{picture-outcome}
-use Rattle.plan_rules.proofs.ClosedTags.{AreClosed, IsLess, fewer_closed, less_closed}
-use Rattle.plan_rules.proofs.Parts.{ArePartsOf, is_part, is_part_of}
-use Rattle.plan_rules.proofs.RealTags.{real_few}
+use Rattle.plan_rules.proofs.{ClosedTags.AreClosed, ClosedTags.IsLess, ClosedTags.fewer_closed, ClosedTags.less_closed, Parts.ArePartsOf, Parts.is_part, Parts.is_part_of, RealTags.real_few}
 
 -- no host has more tags than it may
 abbrev pub FewTags : Picture → Type 0

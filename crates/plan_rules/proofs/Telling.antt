@@ -1,13 +1,9 @@
 -- What a value states is told by its parts.
 use Rattle.std.proofs.Common.{◌≡◌, ℕ, List, [], ◌∷◌, Some, Result, Ok, Err, map, sym, ◌∙◌, ap, subst, refl}
-use Rattle.std.proofs.lemmas.Option.{none-some, same_Some}
-use Rattle.std.specs.List.{AllZip}
-use Rattle.serde_json.specs.Data.{Data, null, boolean, number, string, array, object, Items}
-use Rattle.serde_json.specs.Find.{as_array, get}
-use Rattle.serde_json.specs.View.{items_of, items_view, view}
+use Rattle.std.{proofs.lemmas.Option.none-some, proofs.lemmas.Option.same_Some, specs.List.AllZip}
+use Rattle.serde_json.specs.{Data.Data, Data.null, Data.boolean, Data.number, Data.string, Data.array, Data.object, Data.Items, Find.as_array, Find.get, View.items_of, View.items_view, View.view}
 use Rattle.serde_json.specs.declared.value.Value.{Value}
-use Rattle.plan_rules.specs.DemandTexts.{IsArrayOf, IsTold, MemberIs, items_in}
-use Rattle.plan_rules.specs.declared.demand_faults.DemandFault.{DemandFault}
+use Rattle.plan_rules.specs.{DemandTexts.IsArrayOf, DemandTexts.IsTold, DemandTexts.MemberIs, DemandTexts.items_in, declared.demand_faults.DemandFault.DemandFault}
 
 -- it states nothing where a part of it states nothing
 pub passed_on : {X Y : Type 0} (P : X → Type 0) (Q : Y → Type 0) (fault : DemandFault) → IsTold P (Err fault)

@@ -1,52 +1,30 @@
 -- In every legal journal the extents of all hosts have tags of sixteen numbers and sequences of two bytes.
 use Rattle.std.proofs.Common.{◌≡◌, ℕ, ◌+◌, ◌*◌, ◌-◌, ◌/◌, ◌≤◌, Bool, true, false, ◌&&◌, ◌==◌, List, [], ◌∷◌, ◌++◌, length, map, drop, Option, Some, None, refl, ap, ◌∙◌, inl, inr, arith, ltb}
-use Rattle.std.specs.Prelude.{fold, if◌then◌else◌, nat_lt}
-use Rattle.std.specs.Int.{w32}
-use Rattle.std.specs.List.{enumerate_from, list_all}
-use Rattle.std.specs.declared.result.Result.{Result}
-use Rattle.std.specs.declared.result.Result.TheVariants.{Ok, Err}
-use Rattle.std.proofs.lemmas.Bool.{and_from, and_parts, cases_Bool, eq-eqb, eqb-true, lt-ltb, ltb-false}
-use Rattle.std.proofs.lemmas.List.{length-drop, length-map, length-take}
-use Rattle.std.proofs.lemmas.List.Folds.{list_all-append}
-use Rattle.std.proofs.lemmas.List.FromFn.{length-enumerate_from}
-use Rattle.dcd_base.specs.declared.capacity.Extent.{Extent}
-use Rattle.dcd_base.specs.declared.capacity.Tag.{Tag}
-use Rattle.dcd_base.specs.declared.ids.HostId.{HostId}
-use Rattle.dcd_base.specs.declared.steps.Actor.{Actor}
-use Rattle.dcd_base.specs.declared.steps.LogId.{LogId}
+use Rattle.std.proofs.lemmas.{Bool.and_from, Bool.and_parts, Bool.cases_Bool, Bool.eq-eqb, Bool.eqb-true, Bool.lt-ltb, Bool.ltb-false, List.length-drop, List.length-map, List.length-take}
+use Rattle.std.{proofs.lemmas.List.Folds.list_all-append, proofs.lemmas.List.FromFn.length-enumerate_from, specs.Int.w32, specs.List.enumerate_from, specs.List.list_all}
+use Rattle.std.specs.{Prelude.fold, Prelude.if◌then◌else◌, Prelude.nat_lt, declared.result.Result.Result, declared.result.Result.TheVariants.Ok, declared.result.Result.TheVariants.Err}
+use Rattle.dcd_base.specs.{Layouts.number_at, Layouts.pieces, Payloads.has_flag, Payloads.tag_at, declared.capacity.Extent.Extent, declared.capacity.Tag.Tag, declared.faults.PayloadFault.PayloadFault}
+use Rattle.dcd_base.specs.declared.{ids.HostId.HostId, steps.Actor.Actor, steps.LogId.LogId}
 use Rattle.dcd_codes.specs.declared.rules.Rule.{Rule}
-use Rattle.dcd_base.specs.Layouts.{number_at, pieces}
-use Rattle.dcd_base.specs.Payloads.{has_flag, tag_at}
-use Rattle.dcd_base.specs.declared.faults.PayloadFault.{PayloadFault}
 use Rattle.host_payloads.specs.HostPayloads.{clear_asked, configuration_asked, events_asked, extents_asked, host_request, list_length, listed_extent, listed_extents, listed_in, of_list}
 use Rattle.host_payloads.specs.declared.requests.HostRequest.{HostRequest}
 use Rattle.fm_payloads.specs.ManagerPayloads.{info_asked, lists_asked, made_of, manager_clear_asked, manager_events_asked, manager_request, placed_in, placed_length, regions_asked, setting_asked, tag_in, tags_asked, to_add, to_remove}
-use Rattle.fm_payloads.specs.declared.placing.Placed.{Placed}
-use Rattle.fm_payloads.specs.declared.requests.FmRequest.{FmRequest}
-use Rattle.region_config.specs.Configurations.{Configuration}
-use Rattle.region_config.specs.Granules.{region_spec}
+use Rattle.fm_payloads.specs.declared.{placing.Placed.Placed, requests.FmRequest.FmRequest}
+use Rattle.region_config.specs.{Configurations.Configuration, Granules.region_spec}
 use Rattle.media_map.specs.Places.{bytes_of_run, run_of, start_of}
 use Rattle.extent_list.specs.ExtentLists.{cut, has_range, lies_in, marked, owner_of, piece, without}
-use Rattle.journal_core.specs.Entries.{effects}
-use Rattle.journal_core.specs.declared.acts.Act.{Act}
-use Rattle.journal_core.specs.declared.entries.Entry.{Entry}
-use Rattle.journal_core.specs.declared.outcome.Effect.{Effect}
+use Rattle.journal_core.{proofs.JournalSteps.effects-push, specs.Entries.effects, specs.declared.acts.Act.Act, specs.declared.entries.Entry.Entry, specs.declared.outcome.Effect.Effect}
 use Rattle.journal_core.specs.declared.outcome.HeldKind.{HeldKind}
-use Rattle.journal_core.proofs.JournalSteps.{effects-push}
+use Rattle.isolation_laws.specs.device_rules.proofs.Adding.{row_of}
+use Rattle.isolation_laws.specs.device_rules.proofs.EffectKinds.{any_log, clear_passes, outcome_passes, reference_passes, removals_pass, tells_any, zeroes_pass}
+use Rattle.isolation_laws.specs.device_rules.proofs.{Leaving.both_pass, Leaving.map_passes, LegalSteps.by_steps}
 use Rattle.isolation_laws.specs.device_rules.specs.Adding.{add_rule, chosen, is_free_now, offered, present}
-use Rattle.isolation_laws.specs.device_rules.specs.Answers.{dropped, effects_with, host_outcome, host_result, host_rule, manager_outcome, manager_result, manager_rule, scrubbed, unless}
 use Rattle.isolation_laws.specs.device_rules.specs.Hosts.{accepted_after, accepted_of, held_after, held_of, offers_after, offers_of, same_kind}
-use Rattle.isolation_laws.specs.device_rules.specs.Legal.{Legal, right_answer}
-use Rattle.isolation_laws.specs.device_rules.specs.Logs.{log_of}
-use Rattle.isolation_laws.specs.device_rules.specs.Outcomes.{Outcome, effects_of}
+use Rattle.isolation_laws.specs.device_rules.specs.{Legal.Legal, Legal.right_answer, Logs.log_of, Outcomes.Outcome, Outcomes.effects_of}
 use Rattle.isolation_laws.specs.device_rules.specs.ReleaseOutcomes.{is_cleaning, is_forced, leaves, removed}
 use Rattle.isolation_laws.specs.device_rules.specs.ResponseOutcomes.{answered, hold, respond_changes, unhold}
-use Rattle.isolation_laws.specs.device_rules.specs.Tags.{is_referenced, last_offer, tag_runs}
-use Rattle.isolation_laws.specs.device_rules.specs.Views.{View, view_of}
-use Rattle.isolation_laws.specs.device_rules.proofs.EffectKinds.{any_log, clear_passes, outcome_passes, reference_passes, removals_pass, tells_any, zeroes_pass}
-use Rattle.isolation_laws.specs.device_rules.proofs.Leaving.{both_pass, map_passes}
-use Rattle.isolation_laws.specs.device_rules.proofs.LegalSteps.{by_steps}
-use Rattle.isolation_laws.specs.device_rules.proofs.Adding.{row_of}
+use Rattle.isolation_laws.specs.device_rules.specs.{Tags.is_referenced, Tags.last_offer, Tags.tag_runs, Views.View, Views.view_of}
+use Rattle.isolation_laws.specs.device_rules.specs.Answers.{dropped, effects_with, host_outcome, host_result, host_rule, manager_outcome, manager_result, manager_rule, scrubbed, unless}
 
 -- whether the tag has sixteen numbers and the sequence two bytes
 abbrev pub is_tellable : Extent → Bool

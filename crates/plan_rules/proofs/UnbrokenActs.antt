@@ -1,20 +1,14 @@
 -- Acts one after another: the journal behind them, that it is legal, and that none of them breaks a rule.
 use Rattle.std.proofs.Common.{◌≡◌, ℕ, suc, ◌<◌, List, [], ◌∷◌, ◌++◌, length, None, refl, arith}
 use Rattle.std.proofs.lemmas.Bool.{lt-ltb}
-use Rattle.dcd_base.specs.declared.ids.HostId.{HostId}
-use Rattle.dcd_base.specs.declared.steps.Actor.{Actor}
+use Rattle.dcd_base.specs.declared.{ids.HostId.HostId, steps.Actor.Actor}
 use Rattle.fm_payloads.specs.declared.requests.FmRequest.{FmRequest}
 use Rattle.host_payloads.specs.declared.requests.HostRequest.{HostRequest}
 use Rattle.region_config.specs.Configurations.{Configuration}
-use Rattle.journal_core.specs.declared.acts.Act.{Act}
-use Rattle.journal_core.specs.declared.entries.Entry.{Entry}
-use Rattle.journal_core.proofs.EachSteps.{Each-push}
+use Rattle.journal_core.{specs.declared.acts.Act.Act, specs.declared.entries.Entry.Entry, proofs.EachSteps.Each-push}
 use Rattle.isolation_laws.specs.device_rules.specs.Legal.{Legal, Meets}
-use Rattle.plan_rules.specs.Holding.{Step, entry_of_step, stepped}
-use Rattle.plan_rules.specs.Listing.{by_host, by_manager}
-use Rattle.plan_rules.specs.Planning.{broken_at, refused_in}
-use Rattle.plan_rules.proofs.Succeeding.{none_broken}
-use Rattle.plan_rules.specs.ActsLeft.{Unbroken, journal_behind}
+use Rattle.plan_rules.{proofs.Succeeding.none_broken, specs.ActsLeft.Unbroken, specs.ActsLeft.journal_behind, specs.Holding.Step, specs.Holding.entry_of_step, specs.Holding.stepped}
+use Rattle.plan_rules.specs.{Listing.by_host, Listing.by_manager, Planning.broken_at, Planning.refused_in}
 
 module _ (c : Configuration) where
   -- ---- two lists of acts

@@ -1,17 +1,12 @@
 -- A list of acts that goes over some items, so that the acts of each touch some hosts' regions and leave all others still.
 use Rattle.std.proofs.Common.{◌≡◌, ℕ, List, [], ◌∷◌, ◌++◌, refl, sym, ap, subst}
-use Rattle.std.specs.List.{AllByRecursion}
-use Rattle.std.specs.Prelude.{flat_map}
+use Rattle.std.specs.{List.AllByRecursion, Prelude.flat_map}
 use Rattle.dcd_base.specs.declared.ids.HostId.{HostId}
 use Rattle.region_config.specs.Configurations.{Configuration}
-use Rattle.journal_core.specs.Entries.{effects}
-use Rattle.journal_core.specs.declared.outcome.Effect.{Effect}
-use Rattle.journal_core.specs.declared.entries.Entry.{Entry}
+use Rattle.journal_core.specs.{Entries.effects, declared.outcome.Effect.Effect, declared.entries.Entry.Entry}
 use Rattle.isolation_laws.specs.device_rules.specs.Legal.{Legal}
-use Rattle.plan_rules.specs.Holding.{Step, stepped}
-use Rattle.plan_rules.specs.ActsLeft.{Unbroken}
-use Rattle.plan_rules.proofs.Stillness.{Still, still_self, still_then}
-use Rattle.plan_rules.proofs.UnbrokenActs.{stepped-append, unbroken_parts}
+use Rattle.plan_rules.proofs.{Stillness.Still, Stillness.still_self, Stillness.still_then, UnbrokenActs.stepped-append, UnbrokenActs.unbroken_parts}
+use Rattle.plan_rules.specs.{ActsLeft.Unbroken, Holding.Step, Holding.stepped}
 
 -- the acts of each item behind those of the items before it
 abbrev pub walk : {X : Type 0} → Configuration → (List Entry → X → List Step) → List Entry → List X → List Step

@@ -1,68 +1,35 @@
 -- A host that takes its oldest offer whole is never refused, and no block gets free or taken by it.
 use Rattle.std.proofs.Common.{◌≡◌, ◌||◌, ℕ, ◌<◌, Bool, true, false, not, ◌&&◌, ◌==◌, List, [], ◌∷◌, ◌++◌, length, map, refl, ap, sym, subst, ◌∙◌, inl, inr, arith, append_assoc, append-nil}
-use Rattle.std.specs.Prelude.{drop, flat_map, fold, if◌then◌else◌}
-use Rattle.std.specs.List.{AllByRecursion, filter, list_all}
-use Rattle.std.specs.declared.result.Result.TheVariants.{Ok}
-use Rattle.std.proofs.lemmas.Bool.{cases_Bool, cases_lt, eq-eqb, false_from_ne_true}
-use Rattle.std.proofs.lemmas.List.{length-map}
-use Rattle.std.proofs.lemmas.List.Elements.{All-from_recursion}
+use Rattle.std.proofs.lemmas.{Bool.cases_Bool, Bool.cases_lt, Bool.eq-eqb, Bool.false_from_ne_true, List.length-map, List.Elements.All-from_recursion}
+use Rattle.std.specs.{List.AllByRecursion, List.filter, List.list_all, Prelude.drop, Prelude.flat_map, Prelude.fold, Prelude.if◌then◌else◌, declared.result.Result.TheVariants.Ok}
 use Rattle.cci_codec.specs.declared.messages.Request.{Request}
-use Rattle.dcd_base.specs.Words.{has_granule, has_in_runs, has_tag}
-use Rattle.dcd_base.specs.declared.capacity.Extent.{Extent}
-use Rattle.dcd_base.specs.declared.capacity.Tag.{Tag}
-use Rattle.dcd_base.specs.declared.ids.HostId.{HostId}
-use Rattle.dcd_base.specs.declared.media.Run.{Run}
-use Rattle.event_records.specs.declared.events.Event.{Event}
+use Rattle.dcd_base.specs.{Words.has_granule, Words.has_in_runs, Words.has_tag, declared.capacity.Extent.Extent, declared.capacity.Tag.Tag, declared.ids.HostId.HostId, declared.media.Run.Run}
 use Rattle.dcd_base.specs.declared.steps.LogId.{LogId}
+use Rattle.event_records.specs.declared.events.Event.{Event}
 use Rattle.extent_list.specs.ExtentLists.{marked, tags_of}
-use Rattle.host_payloads.specs.HostPayloads.{host_request}
-use Rattle.host_payloads.specs.declared.requests.HostRequest.{HostRequest}
+use Rattle.host_payloads.specs.{HostPayloads.host_request, declared.requests.HostRequest.HostRequest}
 use Rattle.media_map.specs.Places.{region_at, run_of}
-use Rattle.offer_core.proofs.Owners.{marked_all, owned}
-use Rattle.offer_core.specs.InOrder.{AreSome, none, taken, IsSoundIn, SameAddresses}
+use Rattle.offer_core.{proofs.Owners.marked_all, proofs.Owners.owned, specs.InOrder.AreSome, specs.InOrder.none, specs.InOrder.taken, specs.InOrder.IsSoundIn, specs.InOrder.SameAddresses}
 use Rattle.offer_core.specs.Offerings.{oldest_of}
-use Rattle.region_config.specs.Configurations.{Configuration}
-use Rattle.region_config.specs.Granules.{region_of, region_spec, with_blocks}
-use Rattle.region_config.specs.Soundness.{IsSound}
-use Rattle.journal_core.specs.Entries.{effects}
-use Rattle.journal_core.specs.declared.entries.Entry.{Entry}
-use Rattle.journal_core.specs.declared.outcome.Effect.{Effect}
-use Rattle.journal_core.specs.declared.outcome.HeldKind.{HeldKind}
-use Rattle.isolation_laws.specs.device_rules.specs.Adding.{is_free_now, region_free_blocks}
-use Rattle.isolation_laws.specs.device_rules.specs.Answers.{host_outcome}
-use Rattle.isolation_laws.specs.device_rules.specs.Hosts.{accepted_after, accepted_of, block_of, held_of, offers_after, offers_of}
-use Rattle.isolation_laws.specs.device_rules.specs.Legal.{Legal}
-use Rattle.isolation_laws.specs.device_rules.specs.Logs.{log_of}
-use Rattle.isolation_laws.specs.device_rules.specs.Outcomes.{Outcome, effects_of, ended, entered_all}
-use Rattle.isolation_laws.specs.device_rules.specs.ResponseOutcomes.{answered, respond_changes, unhold}
-use Rattle.isolation_laws.specs.device_rules.specs.Tags.{is_free, is_live, open_tags, region_of_offer, status}
-use Rattle.isolation_laws.specs.device_rules.specs.Views.{view_after, view_of}
-use Rattle.isolation_laws.specs.device_rules.proofs.EffectKinds.{any_log, tells_any, told_passes}
-use Rattle.isolation_laws.specs.device_rules.proofs.Leaving.{is_quiet, map_passes}
-use Rattle.isolation_laws.specs.device_rules.proofs.ListSteps.{any-map, each-at, each-back, each-both, each-front, many, many-any, many-append}
-use Rattle.isolation_laws.specs.device_rules.proofs.RunEffects.{holding-takes, in_extents, takes}
-use Rattle.isolation_laws.specs.device_rules.specs.Pictures.{Picture, extents_at, picture_of}
-use Rattle.isolation_laws.specs.device_rules.specs.Standing.{IsMade, IsTogether, Sound, Stands}
-use Rattle.isolation_laws.specs.device_rules.proofs.FreeGranules.{free_none}
-use Rattle.isolation_laws.specs.device_rules.proofs.Holding.{present_whole}
-use Rattle.isolation_laws.specs.device_rules.proofs.Homes.{made_of_region}
-use Rattle.isolation_laws.specs.device_rules.proofs.InOrderResponses.{all_apart, each_sound, legal_allows, made_there, once}
-use Rattle.isolation_laws.specs.device_rules.proofs.LegalSound.{legal_is_sound}
-use Rattle.isolation_laws.specs.device_rules.proofs.OneOffer.{reaches}
-use Rattle.isolation_laws.specs.device_rules.proofs.StatusAnswers.{status-taken, status-unanswered}
-use Rattle.isolation_laws.specs.device_rules.proofs.StatusParts.{status-quiet}
-use Rattle.plan_rules.specs.Kept.{KeepsOthers}
-use Rattle.plan_rules.specs.Listing.{listed}
-use Rattle.plan_rules.specs.Taking.{IsOfferTaken, TakesWholeOffers, blocks_free_now}
-use Rattle.plan_rules.proofs.Answering.{host_does}
-use Rattle.plan_rules.proofs.ClosedTags.{IsClosed}
-use Rattle.journal_core.specs.Holders.{holding_after, holds}
-use Rattle.isolation_laws.specs.device_rules.proofs.LogHistories.{leaves_logs}
-use Rattle.plan_rules.proofs.KeptLogs.{response_kept}
-use Rattle.plan_rules.proofs.Keeping.{leaves_held, leaves_host, others_kept, outcome_accepted, outcome_blocks, outcome_held, outcome_holds, outcome_offers}
+use Rattle.region_config.specs.{Configurations.Configuration, Granules.region_of, Granules.region_spec, Granules.with_blocks, Soundness.IsSound}
+use Rattle.journal_core.specs.{Entries.effects, declared.entries.Entry.Entry, declared.outcome.Effect.Effect, declared.outcome.HeldKind.HeldKind, Holders.holding_after, Holders.holds}
 use Rattle.isolation_laws.proofs.RemovalViews.{no_block as leaves_blocks}
-use Rattle.plan_rules.proofs.PrivateTags.{legal_is_closed}
-use Rattle.plan_rules.proofs.WholeTags.{each_distinct, tags_each}
+use Rattle.isolation_laws.specs.device_rules.proofs.{EffectKinds.any_log, EffectKinds.tells_any, EffectKinds.told_passes, FreeGranules.free_none, Holding.present_whole, Homes.made_of_region}
+use Rattle.isolation_laws.specs.device_rules.proofs.InOrderResponses.{all_apart, each_sound, legal_allows, made_there, once}
+use Rattle.isolation_laws.specs.device_rules.proofs.{Leaving.is_quiet, Leaving.map_passes, LegalSound.legal_is_sound}
+use Rattle.isolation_laws.specs.device_rules.proofs.ListSteps.{any-map, each-at, each-back, each-both, each-front, many, many-any, many-append}
+use Rattle.isolation_laws.specs.device_rules.proofs.{LogHistories.leaves_logs, OneOffer.reaches, RunEffects.holding-takes, RunEffects.in_extents, RunEffects.takes}
+use Rattle.isolation_laws.specs.device_rules.proofs.{StatusAnswers.status-taken, StatusAnswers.status-unanswered, StatusParts.status-quiet}
+use Rattle.isolation_laws.specs.device_rules.specs.{Adding.is_free_now, Adding.region_free_blocks, Answers.host_outcome}
+use Rattle.isolation_laws.specs.device_rules.specs.{Hosts.accepted_after, Hosts.accepted_of, Hosts.block_of, Hosts.held_of, Hosts.offers_after, Hosts.offers_of, Legal.Legal, Logs.log_of}
+use Rattle.isolation_laws.specs.device_rules.specs.{Outcomes.Outcome, Outcomes.effects_of, Outcomes.ended, Outcomes.entered_all, Pictures.Picture, Pictures.extents_at, Pictures.picture_of}
+use Rattle.isolation_laws.specs.device_rules.specs.ResponseOutcomes.{answered, respond_changes, unhold}
+use Rattle.isolation_laws.specs.device_rules.specs.Standing.{IsMade, IsTogether, Sound, Stands}
+use Rattle.isolation_laws.specs.device_rules.specs.{Tags.is_free, Tags.is_live, Tags.open_tags, Tags.region_of_offer, Tags.status, Views.view_after, Views.view_of}
+use Rattle.plan_rules.proofs.{Answering.host_does, ClosedTags.IsClosed}
+use Rattle.plan_rules.proofs.Keeping.{leaves_held, leaves_host, others_kept, outcome_accepted, outcome_blocks, outcome_held, outcome_holds, outcome_offers}
+use Rattle.plan_rules.{proofs.KeptLogs.response_kept, proofs.PrivateTags.legal_is_closed, proofs.WholeTags.each_distinct, proofs.WholeTags.tags_each, specs.Kept.KeepsOthers, specs.Listing.listed}
+use Rattle.plan_rules.specs.Taking.{IsOfferTaken, TakesWholeOffers, blocks_free_now}
 
 -- all of a list, in order
 all_same : (ys : List Extent) → AreSome SameAddresses (map listed ys) ys

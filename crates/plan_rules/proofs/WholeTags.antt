@@ -1,36 +1,18 @@
 -- A list of all extents of a region has each tag of a shareable region whole.
-use Rattle.std.proofs.lemmas.List.Elements.{filter_agree}
-use Rattle.plan_rules.proofs.Filters.{each_filtered, filter_both, many_behind}
-use Rattle.std.proofs.Common.{◌≡◌, ℕ, ◌<◌, Bool, true, false, ◌&&◌, List, [], ◌∷◌, ◌++◌, map, None, refl, ap, sym, ◌∙◌, inl, inr, arith, ltb}
-use Rattle.std.specs.Prelude.{flat_map, fold, if◌then◌else◌, Option}
-use Rattle.std.specs.List.{AllByRecursion, filter, list_any}
-use Rattle.std.proofs.lemmas.Bool.{and_from, and_parts, cases_Bool, eq-eqb, eqb-true, false≢true, le-ltb}
-use Rattle.std.proofs.lemmas.List.Sums.{length-filter}
-use Rattle.dcd_base.specs.declared.capacity.Extent.{Extent}
-use Rattle.dcd_base.specs.declared.capacity.Tag.{Tag}
-use Rattle.dcd_base.specs.declared.ids.HostId.{HostId}
-use Rattle.dcd_base.specs.declared.media.Run.{Run}
-use Rattle.dcd_base.specs.Words.{has_granule, has_in_runs, has_tag, is_zero_tag, same_tag}
-use Rattle.dcd_codes.specs.Rules.{first_by}
-use Rattle.dcd_codes.specs.declared.rules.Rule.{Rule}
-use Rattle.extent_list.specs.ExtentLists.{count_of_tag, marked, tags_of}
-use Rattle.extent_list.specs.Listing.{incomplete, is_shareable_at, some_left, too_few_of}
-use Rattle.media_map.specs.Places.{region_at, run_of}
-use Rattle.region_config.specs.Configurations.{Configuration}
-use Rattle.region_config.specs.Granules.{region_spec, with_blocks}
-use Rattle.region_config.specs.Soundness.{IsSound}
-use Rattle.isolation_laws.specs.device_rules.specs.Tags.{tag_runs}
-use Rattle.isolation_laws.specs.device_rules.proofs.ListSteps.{each-append, each-at, each-both, each-change, each-front}
-use Rattle.isolation_laws.specs.device_rules.proofs.TagSteps.{same_tag-is}
-use Rattle.isolation_laws.specs.device_rules.specs.Pictures.{Picture, extents_at}
-use Rattle.isolation_laws.specs.device_rules.specs.Standing.{IsHome, IsMade, IsOpen, IsUnder, Stands}
-use Rattle.isolation_laws.specs.device_rules.proofs.AddChoices.{reach_runs}
-use Rattle.isolation_laws.specs.device_rules.proofs.BlockRuns.{block_run}
-use Rattle.isolation_laws.specs.device_rules.proofs.Holding.{home_made, in_run, present_whole}
-use Rattle.isolation_laws.specs.device_rules.proofs.Homes.{made_of_region}
+use Rattle.std.proofs.lemmas.{Bool.and_from, Bool.and_parts, Bool.cases_Bool, Bool.eq-eqb, Bool.eqb-true, Bool.false≢true, Bool.le-ltb, List.Elements.filter_agree, List.Sums.length-filter}
+use Rattle.std.specs.{List.AllByRecursion, List.filter, List.list_any, Prelude.flat_map, Prelude.fold, Prelude.if◌then◌else◌, Prelude.Option}
+use Rattle.plan_rules.proofs.{Allowed.share_same, ClosedTags.AreClosed, ClosedTags.IsClosed, Filters.each_filtered, Filters.filter_both, Filters.many_behind}
 use Rattle.plan_rules.specs.Kept.{begins_in}
-use Rattle.plan_rules.proofs.Allowed.{share_same}
-use Rattle.plan_rules.proofs.ClosedTags.{AreClosed, IsClosed}
+use Rattle.std.proofs.Common.{◌≡◌, ℕ, ◌<◌, Bool, true, false, ◌&&◌, List, [], ◌∷◌, ◌++◌, map, None, refl, ap, sym, ◌∙◌, inl, inr, arith, ltb}
+use Rattle.dcd_base.specs.{Words.has_granule, Words.has_in_runs, Words.has_tag, Words.is_zero_tag, Words.same_tag, declared.capacity.Extent.Extent, declared.capacity.Tag.Tag}
+use Rattle.dcd_base.specs.declared.{ids.HostId.HostId, media.Run.Run}
+use Rattle.dcd_codes.specs.{Rules.first_by, declared.rules.Rule.Rule}
+use Rattle.extent_list.specs.{ExtentLists.count_of_tag, ExtentLists.marked, ExtentLists.tags_of, Listing.incomplete, Listing.is_shareable_at, Listing.some_left, Listing.too_few_of}
+use Rattle.media_map.specs.Places.{region_at, run_of}
+use Rattle.region_config.specs.{Configurations.Configuration, Granules.region_spec, Granules.with_blocks, Soundness.IsSound}
+use Rattle.isolation_laws.specs.device_rules.proofs.{AddChoices.reach_runs, BlockRuns.block_run, Holding.home_made, Holding.in_run, Holding.present_whole, Homes.made_of_region}
+use Rattle.isolation_laws.specs.device_rules.proofs.{ListSteps.each-append, ListSteps.each-at, ListSteps.each-both, ListSteps.each-change, ListSteps.each-front, TagSteps.same_tag-is}
+use Rattle.isolation_laws.specs.device_rules.specs.{Pictures.Picture, Pictures.extents_at, Standing.IsHome, Standing.IsMade, Standing.IsOpen, Standing.IsUnder, Standing.Stands, Tags.tag_runs}
 
 -- ---- a row over tags
 

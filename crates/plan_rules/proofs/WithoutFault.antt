@@ -1,27 +1,15 @@
 -- What is known of the demands where a plan has no fault.
 use Rattle.std.proofs.Common.{◌≡◌, ℕ, zero, suc, ◌<◌, ◌≤◌, Bool, true, false, not, ◌&&◌, ◌||◌, ◌==◌, List, [], ◌∷◌, length, take, Option, Some, None, get_or, refl, sym, ◌∙◌, arith}
-use Rattle.std.specs.Prelude.{nat_le, nat_lt, option_map}
-use Rattle.std.specs.List.{AllByRecursion, list_any}
+use Rattle.std.specs.{Prelude.nat_le, Prelude.nat_lt, Prelude.option_map, List.AllByRecursion, List.list_any}
 use Rattle.std.proofs.lemmas.Bool.{and_from, eq-eqb, false≢true, leb-false, ltb-false, not-false, or_parts, or_right, or_left}
-use Rattle.dcd_base.specs.declared.ids.HostId.{HostId}
-use Rattle.dcd_base.specs.Words.{is_empty}
+use Rattle.dcd_base.specs.{declared.ids.HostId.HostId, Words.is_empty}
 use Rattle.media_map.proofs.PlaceLemmas.{none_found}
-use Rattle.region_config.specs.Configurations.{Configuration}
-use Rattle.region_config.specs.Granules.{region_spec}
-use Rattle.region_config.proofs.Searches.{or_parts as option_parts}
-use Rattle.journal_core.specs.Entries.{effects}
-use Rattle.journal_core.specs.declared.outcome.Effect.{Effect}
-use Rattle.journal_core.specs.declared.outcome.HeldKind.{HeldKind}
-use Rattle.journal_core.specs.declared.entries.Entry.{Entry}
+use Rattle.region_config.{specs.Configurations.Configuration, specs.Granules.region_spec, proofs.Searches.or_parts as option_parts}
+use Rattle.journal_core.specs.{Entries.effects, declared.outcome.Effect.Effect, declared.outcome.HeldKind.HeldKind, declared.entries.Entry.Entry}
 use Rattle.isolation_laws.specs.device_rules.specs.Hosts.{held_of, offers_of}
-use Rattle.plan_rules.specs.declared.demands.Demand.{Demand}
-use Rattle.plan_rules.specs.declared.demands.Demands.{Demands}
+use Rattle.plan_rules.{proofs.DeadHosts.touches_host, proofs.Demanded.touches_pair, proofs.Walks.AllApart, proofs.Walks.ApartFrom, specs.ActsLeft.IsPlain, specs.declared.demands.Demand.Demand}
+use Rattle.plan_rules.specs.declared.{demands.Demands.Demands, faults.PlanFault.PlanFault}
 use Rattle.plan_rules.specs.Planning.{has_held, has_number, have_in, is_bad_dead, is_bad_demand, is_demanded, is_open, lowest_below, named_fault, need_in, no_demand, same_place, short_fault}
-use Rattle.plan_rules.specs.declared.faults.PlanFault.{PlanFault}
-use Rattle.plan_rules.specs.ActsLeft.{IsPlain}
-use Rattle.plan_rules.proofs.DeadHosts.{touches_host}
-use Rattle.plan_rules.proofs.Demanded.{touches_pair}
-use Rattle.plan_rules.proofs.Walks.{AllApart, ApartFrom}
 
 -- ---- lists by their indices
 

@@ -1,9 +1,7 @@
 -- What values state one by one.
 use Rattle.std.proofs.Common.{◌≡◌, ℕ, zero, suc, ◌<◌, List, [], ◌∷◌, ◌++◌, length, map, take, get_or, sym, subst, arith}
 use Rattle.std.specs.List.{AllZip}
-use Rattle.serde_json.specs.Data.{Data}
-use Rattle.serde_json.specs.View.{view}
-use Rattle.serde_json.specs.declared.value.Value.{Value}
+use Rattle.serde_json.specs.{Data.Data, View.view, declared.value.Value.Value}
 
 -- each value has something that it states
 pub zipped_at : {X : Type 0} (States : Data → X → Type 0) (vs : List Value) (i : ℕ) (v : Value) → v ≡ get_or vs i v → i < length vs

@@ -1,25 +1,13 @@
 -- What the acts of a plan leave, each for itself.
 use Rattle.std.specs.Prelude.{◌≡◌, ◌≢◌, ℕ, ◌+◌, ◌-◌, ◌*◌, ◌^◌, ◌<◌, ◌≤◌, false, List, [], ◌∷◌, ◌++◌, length, drop, reverse, None, IsFalse}
-use Rattle.dcd_base.specs.declared.ids.HostId.{HostId}
-use Rattle.dcd_base.specs.declared.steps.Actor.{Actor}
-use Rattle.dcd_base.specs.Words.{zero_tag}
+use Rattle.dcd_base.specs.{declared.ids.HostId.HostId, declared.steps.Actor.Actor, Words.zero_tag}
 use Rattle.host_payloads.specs.declared.requests.HostRequest.{HostRequest}
 use Rattle.fm_payloads.specs.declared.requests.FmRequest.{FmRequest}
-use Rattle.region_config.specs.Configurations.{Configuration}
-use Rattle.region_config.specs.Granules.{region_spec}
-use Rattle.journal_core.specs.Entries.{effects}
-use Rattle.journal_core.specs.declared.acts.Act.{Act}
-use Rattle.journal_core.specs.declared.outcome.Effect.{Effect}
-use Rattle.journal_core.specs.declared.outcome.HeldKind.{HeldKind}
-use Rattle.journal_core.specs.declared.entries.Entry.{Entry}
-use Rattle.isolation_laws.specs.device_rules.specs.Answers.{broken}
-use Rattle.isolation_laws.specs.device_rules.specs.Hosts.{accepted_of, block_of, held_of, offers_of}
-use Rattle.isolation_laws.specs.device_rules.specs.Legal.{Legal}
-use Rattle.plan_rules.specs.declared.demands.Demand.{Demand}
-use Rattle.plan_rules.specs.Kept.{KeepsHosts, KeepsOthers, bytes_in}
-use Rattle.plan_rules.specs.Holding.{Step, blocks_held, entry_of_step, extents_in_region, stepped}
-use Rattle.plan_rules.specs.Listing.{by_host, by_manager, last_bytes, offer_taken}
-use Rattle.plan_rules.specs.Meeting.{HoldsStill}
+use Rattle.region_config.specs.{Configurations.Configuration, Granules.region_spec}
+use Rattle.journal_core.specs.{Entries.effects, declared.acts.Act.Act, declared.outcome.Effect.Effect, declared.outcome.HeldKind.HeldKind, declared.entries.Entry.Entry}
+use Rattle.isolation_laws.specs.device_rules.specs.{Answers.broken, Hosts.accepted_of, Hosts.block_of, Hosts.held_of, Hosts.offers_of, Legal.Legal}
+use Rattle.plan_rules.specs.{Holding.Step, Holding.blocks_held, Holding.entry_of_step, Holding.extents_in_region, Holding.stepped, Kept.KeepsHosts, Kept.KeepsOthers, Kept.bytes_in}
+use Rattle.plan_rules.specs.{Listing.by_host, Listing.by_manager, Listing.last_bytes, Listing.offer_taken, Meeting.HoldsStill, declared.demands.Demand.Demand}
 
 -- the journal after one more act
 abbrev pub journal_behind : Configuration → List Entry → Step → List Entry

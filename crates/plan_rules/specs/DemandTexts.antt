@@ -1,13 +1,9 @@
 -- The demands that a JSON text states.
 use Rattle.std.specs.Prelude.{◌≡◌, ℕ, suc, ◌^◌, ◌<◌, List, [], ◌∷◌, codes, Some, option_map, Result, Ok, Err}
-use Rattle.std.specs.List.{AllZip}
-use Rattle.std.specs.Str.{IsUtf8}
+use Rattle.std.specs.{List.AllZip, Str.IsUtf8}
 use Rattle.serde_json.specs.Data.{Data, number, array, unsigned, Items, no_items, item, Members, no_members, member}
-use Rattle.serde_json.specs.Find.{get, as_object}
-use Rattle.serde_json.specs.Read.{read}
-use Rattle.plan_rules.specs.declared.demands.Demand.{Demand}
-use Rattle.plan_rules.specs.declared.demands.Demands.{Demands}
-use Rattle.plan_rules.specs.declared.demand_faults.DemandFault.{DemandFault}
+use Rattle.serde_json.specs.{Find.get, Find.as_object, Read.read}
+use Rattle.plan_rules.specs.declared.{demands.Demand.Demand, demands.Demands.Demands, demand_faults.DemandFault.DemandFault}
 
 -- ---- the value that bytes are
 

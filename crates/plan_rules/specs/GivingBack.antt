@@ -2,22 +2,12 @@
 use Rattle.std.specs.Prelude.{◌≡◌, ◌≢◌, ℕ, ◌<◌, ◌%◌, false, IsFalse, IsTrue, List, [], filter, length, reverse, ◌-◌}
 use Rattle.std.specs.declared.result.Result.TheVariants.{Ok}
 use Rattle.cci_codec.specs.declared.messages.Request.{Request}
-use Rattle.dcd_base.specs.declared.ids.HostId.{HostId}
-use Rattle.dcd_base.specs.declared.steps.Actor.{Actor}
-use Rattle.dcd_base.specs.declared.steps.LogId.{LogId}
-use Rattle.host_payloads.specs.HostPayloads.{host_request}
-use Rattle.host_payloads.specs.declared.requests.HostRequest.{HostRequest}
-use Rattle.region_config.specs.Configurations.{Configuration}
-use Rattle.region_config.specs.Granules.{region_spec}
-use Rattle.journal_core.specs.Entries.{effects}
-use Rattle.journal_core.specs.Holders.{holds}
-use Rattle.journal_core.specs.declared.entries.Entry.{Entry}
-use Rattle.journal_core.specs.declared.outcome.HeldKind.{HeldKind}
-use Rattle.isolation_laws.specs.device_rules.specs.Hosts.{accepted_of, block_of, held_of, offers_of}
-use Rattle.isolation_laws.specs.device_rules.specs.Logs.{log_of}
-use Rattle.plan_rules.specs.Kept.{KeepsOthers, Succeeds, begins_in, behind_host, bytes_in}
-use Rattle.plan_rules.specs.Listing.{last_bytes}
-use Rattle.plan_rules.specs.LastBytes.{without_last_bytes}
+use Rattle.dcd_base.specs.declared.{ids.HostId.HostId, steps.Actor.Actor, steps.LogId.LogId}
+use Rattle.host_payloads.specs.{HostPayloads.host_request, declared.requests.HostRequest.HostRequest}
+use Rattle.region_config.specs.{Configurations.Configuration, Granules.region_spec}
+use Rattle.journal_core.specs.{Entries.effects, Holders.holds, declared.entries.Entry.Entry, declared.outcome.HeldKind.HeldKind}
+use Rattle.isolation_laws.specs.device_rules.specs.{Hosts.accepted_of, Hosts.block_of, Hosts.held_of, Hosts.offers_of, Logs.log_of}
+use Rattle.plan_rules.specs.{Kept.KeepsOthers, Kept.Succeeds, Kept.begins_in, Kept.behind_host, Kept.bytes_in, Listing.last_bytes, LastBytes.without_last_bytes}
 
 -- The host's extents in the region lack so many bytes at the end of the list, and those elsewhere are as they were. Nobody
 -- holds a granule that it did not hold before.

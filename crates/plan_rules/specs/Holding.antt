@@ -1,16 +1,11 @@
 -- What a host holds in a region, and how acts go on from a journal.
 use Rattle.std.specs.Prelude.{Bool, true, false, ℕ, ◌+◌, ◌-◌, ◌/◌, ◌==◌, List, [], ◌∷◌, ◌++◌, length, sum_by}
 use Rattle.std.specs.List.{filter}
-use Rattle.dcd_base.specs.declared.capacity.Extent.{Extent}
-use Rattle.dcd_base.specs.declared.ids.HostId.{HostId}
-use Rattle.dcd_base.specs.declared.steps.Actor.{Actor}
+use Rattle.dcd_base.specs.declared.{capacity.Extent.Extent, ids.HostId.HostId, steps.Actor.Actor}
 use Rattle.region_config.specs.Configurations.{Configuration}
 use Rattle.media_map.specs.Places.{region_at}
-use Rattle.journal_core.specs.declared.acts.Act.{Act}
-use Rattle.journal_core.specs.declared.outcome.Effect.{Effect}
-use Rattle.journal_core.specs.declared.entries.Entry.{Entry}
-use Rattle.isolation_laws.specs.device_rules.specs.Answers.{answer}
-use Rattle.isolation_laws.specs.device_rules.specs.Hosts.{accepted_of, block_of}
+use Rattle.journal_core.specs.declared.{acts.Act.Act, outcome.Effect.Effect, entries.Entry.Entry}
+use Rattle.isolation_laws.specs.device_rules.specs.{Answers.answer, Hosts.accepted_of, Hosts.block_of}
 use Rattle.plan_rules.specs.declared.demands.Demand.{Demand}
 
 -- ---- holdings

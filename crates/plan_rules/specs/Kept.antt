@@ -1,19 +1,12 @@
 -- What an act leaves of the hosts' lists and of the block sizes.
 use Rattle.std.specs.Prelude.{◌≡◌, ◌≢◌, ℕ, Bool, ◌==◌, List, [], ◌++◌, None, filter, sum_by}
 use Rattle.cci_codec.specs.declared.messages.Request.{Request}
-use Rattle.dcd_base.specs.declared.capacity.Extent.{Extent}
-use Rattle.dcd_base.specs.declared.ids.HostId.{HostId}
-use Rattle.dcd_base.specs.declared.steps.Actor.{Actor}
+use Rattle.dcd_base.specs.declared.{capacity.Extent.Extent, ids.HostId.HostId, steps.Actor.Actor}
 use Rattle.dcd_codes.specs.declared.codes.Code.{Code}
 use Rattle.region_config.specs.Configurations.{Configuration}
 use Rattle.media_map.specs.Places.{region_at}
-use Rattle.journal_core.specs.Entries.{effects}
-use Rattle.journal_core.specs.declared.acts.Act.{Act}
-use Rattle.journal_core.specs.declared.entries.Entry.{Entry}
-use Rattle.journal_core.specs.declared.outcome.Effect.{Effect}
-use Rattle.journal_core.specs.declared.outcome.HeldKind.{HeldKind}
-use Rattle.isolation_laws.specs.device_rules.specs.Answers.{answer, broken, response}
-use Rattle.isolation_laws.specs.device_rules.specs.Hosts.{accepted_of, block_of, held_of, offers_of}
+use Rattle.journal_core.specs.{Entries.effects, declared.acts.Act.Act, declared.entries.Entry.Entry, declared.outcome.Effect.Effect, declared.outcome.HeldKind.HeldKind}
+use Rattle.isolation_laws.specs.device_rules.specs.{Answers.answer, Answers.broken, Answers.response, Hosts.accepted_of, Hosts.block_of, Hosts.held_of, Hosts.offers_of}
 
 -- whether the extent begins in the region
 abbrev pub begins_in : Configuration → HostId → ℕ → Extent → Bool

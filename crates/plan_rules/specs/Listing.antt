@@ -1,27 +1,13 @@
 -- The list of a plan, part by part.
 use Rattle.std.specs.Prelude.{ℕ, ◌+◌, ◌-◌, ◌*◌, ◌==◌, false, List, [], ◌∷◌, ◌++◌, length, map, flat_map, min, replicate, take, reverse, if◌then◌else◌}
-use Rattle.dcd_base.specs.Layouts.{spelling}
-use Rattle.dcd_base.specs.Words.{is_empty, zero_tag}
-use Rattle.dcd_base.specs.declared.capacity.Extent.{Extent}
-use Rattle.dcd_base.specs.declared.ids.HostId.{HostId}
-use Rattle.dcd_base.specs.declared.steps.Actor.{Actor}
-use Rattle.dcd_base.specs.declared.steps.LogId.{LogId}
+use Rattle.dcd_base.specs.{Layouts.spelling, Words.is_empty, Words.zero_tag, declared.capacity.Extent.Extent, declared.ids.HostId.HostId, declared.steps.Actor.Actor, declared.steps.LogId.LogId}
 use Rattle.event_records.specs.declared.events.Event.{Event}
-use Rattle.host_payloads.specs.declared.requests.HostRequest.{HostRequest}
-use Rattle.host_payloads.specs.HostPayloads.{host_fields, host_opcode}
-use Rattle.fm_payloads.specs.declared.requests.FmRequest.{FmRequest}
-use Rattle.fm_payloads.specs.ManagerPayloads.{manager_fields, manager_opcode}
-use Rattle.region_config.specs.Configurations.{Configuration}
-use Rattle.region_config.specs.Granules.{regions_of}
-use Rattle.journal_core.specs.Entries.{effects}
-use Rattle.journal_core.specs.declared.acts.Act.{Act}
-use Rattle.journal_core.specs.declared.outcome.Effect.{Effect}
-use Rattle.journal_core.specs.declared.entries.Entry.{Entry}
-use Rattle.isolation_laws.specs.device_rules.specs.Counts.{dirty_count, records_of}
-use Rattle.isolation_laws.specs.device_rules.specs.Hosts.{block_of, offers_of}
-use Rattle.plan_rules.specs.Holding.{Step, extents_in_region, gain, stepped, surplus}
-use Rattle.plan_rules.specs.declared.demands.Demand.{Demand}
-use Rattle.plan_rules.specs.declared.demands.Demands.{Demands}
+use Rattle.host_payloads.specs.{declared.requests.HostRequest.HostRequest, HostPayloads.host_fields, HostPayloads.host_opcode}
+use Rattle.fm_payloads.specs.{declared.requests.FmRequest.FmRequest, ManagerPayloads.manager_fields, ManagerPayloads.manager_opcode}
+use Rattle.region_config.specs.{Configurations.Configuration, Granules.regions_of}
+use Rattle.journal_core.specs.{Entries.effects, declared.acts.Act.Act, declared.outcome.Effect.Effect, declared.entries.Entry.Entry}
+use Rattle.isolation_laws.specs.device_rules.specs.{Counts.dirty_count, Counts.records_of, Hosts.block_of, Hosts.offers_of}
+use Rattle.plan_rules.specs.{Holding.Step, Holding.extents_in_region, Holding.gain, Holding.stepped, Holding.surplus, declared.demands.Demand.Demand, declared.demands.Demands.Demands}
 
 -- ---- messages; all have the message tag 0
 

@@ -1,15 +1,10 @@
 -- What a plan leaves.
-use Rattle.std.specs.Prelude.{◌≡◌, ℕ, ◌<◌, ◌≤◌, List, [], IsTrue}
-use Rattle.std.specs.List.{Contains}
+use Rattle.std.specs.{Prelude.◌≡◌, Prelude.ℕ, Prelude.◌<◌, Prelude.◌≤◌, Prelude.List, Prelude.[], Prelude.IsTrue, List.Contains}
 use Rattle.dcd_base.specs.declared.ids.HostId.{HostId}
-use Rattle.region_config.specs.Configurations.{Configuration}
-use Rattle.region_config.specs.Granules.{granule_total, region_of}
-use Rattle.journal_core.specs.Holders.{holds}
-use Rattle.journal_core.specs.declared.outcome.Effect.{Effect}
+use Rattle.region_config.specs.{Configurations.Configuration, Granules.granule_total, Granules.region_of}
+use Rattle.journal_core.specs.{Holders.holds, declared.outcome.Effect.Effect}
 use Rattle.isolation_laws.specs.device_rules.specs.Hosts.{accepted_of, offers_of}
-use Rattle.plan_rules.specs.Holding.{blocks_held, extents_in_region}
-use Rattle.plan_rules.specs.declared.demands.Demand.{Demand}
-use Rattle.plan_rules.specs.declared.demands.Demands.{Demands}
+use Rattle.plan_rules.specs.{Holding.blocks_held, Holding.extents_in_region, declared.demands.Demand.Demand, declared.demands.Demands.Demands}
 
 -- All that the host holds of the region first, it holds second too.
 abbrev pub HoldsStill : Configuration → HostId → ℕ → List Effect → List Effect → Type 0

@@ -2,8 +2,7 @@
 use Rattle.std.specs.Prelude.{◌≡◌, List, [], ◌∷◌, ◌++◌, fold, if◌then◌else◌}
 use Rattle.dcd_base.specs.declared.ids.HostId.{HostId}
 use Rattle.region_config.specs.Configurations.{Configuration}
-use Rattle.journal_core.specs.Entries.{effects, is_control}
-use Rattle.journal_core.specs.declared.entries.Entry.{Entry}
+use Rattle.journal_core.specs.{Entries.effects, Entries.is_control, declared.entries.Entry.Entry}
 use Rattle.isolation_laws.specs.device_rules.specs.Hosts.{changes_of}
 use Rattle.plan_rules.specs.Holding.{entry_of_step}
 

@@ -1,23 +1,12 @@
 -- Why there is no plan, and what planning answers.
 use Rattle.std.specs.Prelude.{◌≡◌, ℕ, Bool, true, false, ◌==◌, ◌&&◌, ◌||◌, not, nat_le, nat_lt, List, length, take, drop, sum_by, Option, Some, None, is_some, option_map, option_and_then, slice_get, slice_index_or, if◌then◌else◌, Result, Ok, Err, IsTrue, All}
 use Rattle.std.specs.List.{find, list_any, range_with_len}
-use Rattle.dcd_base.specs.Words.{◌or◌, is_empty}
-use Rattle.dcd_base.specs.declared.ids.HostId.{HostId}
+use Rattle.dcd_base.specs.{Words.◌or◌, Words.is_empty, declared.ids.HostId.HostId}
 use Rattle.dcd_codes.specs.declared.rules.Rule.{Rule}
-use Rattle.region_config.specs.Configurations.{Configuration}
-use Rattle.region_config.specs.Granules.{region_spec}
-use Rattle.journal_core.specs.Entries.{effects}
-use Rattle.journal_core.specs.declared.acts.Reply.{Reply}
-use Rattle.journal_core.specs.declared.entries.Entry.{Entry}
-use Rattle.journal_core.specs.declared.outcome.Effect.{Effect}
-use Rattle.journal_core.specs.declared.outcome.HeldKind.{HeldKind}
-use Rattle.isolation_laws.specs.device_rules.specs.Adding.{region_free_blocks, is_free_now, present}
-use Rattle.isolation_laws.specs.device_rules.specs.Answers.{broken}
-use Rattle.isolation_laws.specs.device_rules.specs.Hosts.{held_of, offers_of}
-use Rattle.plan_rules.specs.Holding.{Step, gain, stepped}
-use Rattle.plan_rules.specs.Listing.{planned, ready}
-use Rattle.plan_rules.specs.declared.demands.Demand.{Demand}
-use Rattle.plan_rules.specs.declared.demands.Demands.{Demands}
+use Rattle.region_config.specs.{Configurations.Configuration, Granules.region_spec}
+use Rattle.journal_core.specs.{Entries.effects, declared.acts.Reply.Reply, declared.entries.Entry.Entry, declared.outcome.Effect.Effect, declared.outcome.HeldKind.HeldKind}
+use Rattle.isolation_laws.specs.device_rules.specs.{Adding.region_free_blocks, Adding.is_free_now, Adding.present, Answers.broken, Hosts.held_of, Hosts.offers_of}
+use Rattle.plan_rules.specs.{Holding.Step, Holding.gain, Holding.stepped, Listing.planned, Listing.ready, declared.demands.Demand.Demand, declared.demands.Demands.Demands}
 use Rattle.plan_rules.specs.declared.faults.PlanFault.{PlanFault}
 
 -- the first number below n of which it is true

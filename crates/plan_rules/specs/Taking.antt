@@ -1,35 +1,18 @@
 -- What is left once a host is offered free blocks, and takes its oldest offer whole.
 use Rattle.extent_list.specs.Listing.{too_many_extents}
+use Rattle.isolation_laws.specs.device_rules.specs.{Adding.is_free_now, Adding.offered, Adding.present, Adding.region_free_blocks, Answers.broken, Answers.manager_rule}
+use Rattle.isolation_laws.specs.device_rules.specs.{Hosts.accepted_of, Hosts.block_of, Hosts.held_of, Hosts.offers_of, Logs.log_of, Outcomes.log_full, Tags.region_of_offer}
 use Rattle.isolation_laws.specs.device_rules.specs.Views.{extents_in, view_of}
-use Rattle.isolation_laws.specs.device_rules.specs.Outcomes.{log_full}
 use Rattle.std.specs.Prelude.{◌≡◌, ◌≢◌, ℕ, ◌+◌, ◌/◌, ◌<◌, false, IsFalse, IsTrue, List, [], ◌∷◌, ◌++◌, None, drop, filter, length, map, sum_by, ◌%◌, ◌≤◌}
 use Rattle.std.specs.declared.result.Result.TheVariants.{Ok}
 use Rattle.cci_codec.specs.declared.messages.Request.{Request}
-use Rattle.dcd_base.specs.declared.ids.HostId.{HostId}
-use Rattle.dcd_base.specs.declared.steps.Actor.{Actor}
-use Rattle.dcd_base.specs.declared.steps.LogId.{LogId}
-use Rattle.dcd_base.specs.Words.{zero_tag, ◌or◌}
-use Rattle.dcd_base.specs.declared.capacity.Extent.{Extent}
-use Rattle.fm_payloads.specs.ManagerPayloads.{manager_request}
-use Rattle.fm_payloads.specs.declared.requests.FmRequest.{FmRequest}
-use Rattle.isolation_laws.specs.device_rules.specs.Answers.{broken, manager_rule}
-use Rattle.host_payloads.specs.HostPayloads.{host_request}
-use Rattle.host_payloads.specs.declared.requests.HostRequest.{HostRequest}
+use Rattle.dcd_base.specs.{declared.ids.HostId.HostId, declared.steps.Actor.Actor, declared.steps.LogId.LogId, Words.zero_tag, Words.◌or◌, declared.capacity.Extent.Extent}
+use Rattle.fm_payloads.specs.{ManagerPayloads.manager_request, declared.requests.FmRequest.FmRequest}
+use Rattle.host_payloads.specs.{HostPayloads.host_request, declared.requests.HostRequest.HostRequest}
 use Rattle.offer_core.specs.Offerings.{oldest_of}
-use Rattle.region_config.specs.Configurations.{Configuration}
-use Rattle.region_config.specs.Granules.{region_spec}
-use Rattle.journal_core.specs.Entries.{effects}
-use Rattle.journal_core.specs.Holders.{holds}
-use Rattle.journal_core.specs.declared.acts.Act.{Act}
-use Rattle.journal_core.specs.declared.entries.Entry.{Entry}
-use Rattle.journal_core.specs.declared.outcome.Effect.{Effect}
-use Rattle.journal_core.specs.declared.outcome.HeldKind.{HeldKind}
-use Rattle.isolation_laws.specs.device_rules.specs.Adding.{is_free_now, offered, present, region_free_blocks}
-use Rattle.isolation_laws.specs.device_rules.specs.Hosts.{accepted_of, block_of, held_of, offers_of}
-use Rattle.isolation_laws.specs.device_rules.specs.Tags.{region_of_offer}
-use Rattle.isolation_laws.specs.device_rules.specs.Logs.{log_of}
-use Rattle.plan_rules.specs.Kept.{KeepsOthers, Succeeds, begins_in, behind_host, behind_manager}
-use Rattle.plan_rules.specs.Listing.{listed}
+use Rattle.region_config.specs.{Configurations.Configuration, Granules.region_spec}
+use Rattle.journal_core.specs.{Entries.effects, Holders.holds, declared.acts.Act.Act, declared.entries.Entry.Entry, declared.outcome.Effect.Effect, declared.outcome.HeldKind.HeldKind}
+use Rattle.plan_rules.specs.{Kept.KeepsOthers, Kept.Succeeds, Kept.begins_in, Kept.behind_host, Kept.behind_manager, Listing.listed}
 
 -- how many blocks of the region are free
 abbrev pub blocks_free_now : Configuration → ℕ → List Effect → ℕ

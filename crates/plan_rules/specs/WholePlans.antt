@@ -1,14 +1,8 @@
 -- What holds of every plan.
 use Rattle.std.specs.Prelude.{◌≡◌, List, None, Some}
 use Rattle.region_config.specs.Configurations.{Configuration}
-use Rattle.journal_core.specs.Entries.{effects}
-use Rattle.journal_core.specs.declared.entries.Entry.{Entry}
-use Rattle.plan_rules.specs.declared.demands.Demands.{Demands}
-use Rattle.plan_rules.specs.Holding.{stepped}
-use Rattle.plan_rules.specs.Listing.{planned}
-use Rattle.plan_rules.specs.Meeting.{MeetsDemands}
-use Rattle.plan_rules.specs.Planning.{IsOfRoom, plan_fault}
-use Rattle.plan_rules.specs.declared.faults.PlanFault.{PlanFault}
+use Rattle.journal_core.specs.{Entries.effects, declared.entries.Entry.Entry}
+use Rattle.plan_rules.specs.{declared.demands.Demands.Demands, Holding.stepped, Listing.planned, Meeting.MeetsDemands, Planning.IsOfRoom, Planning.plan_fault, declared.faults.PlanFault.PlanFault}
 
 -- Where there is no fault, the list leaves what was demanded.
 abbrev pub PlansMeetDemands : Configuration → List Entry → Type 0

@@ -1,17 +1,11 @@
 -- Demands that are gained one after another.
 use Rattle.std.proofs.Common.{◌≡◌, ℕ, ◌+◌, ◌<◌, ◌≤◌, List, [], ◌∷◌, ◌++◌, length, get_or, drop, Some, sym, ap, ◌∙◌, append_assoc, add-one, arith, drop-cons}
-use Rattle.std.specs.Prelude.{flat_map, slice_get}
-use Rattle.std.proofs.lemmas.List.{length-append}
-use Rattle.std.proofs.lemmas.Option.{none-some, same_Some}
+use Rattle.std.{specs.Prelude.flat_map, specs.Prelude.slice_get, proofs.lemmas.List.length-append, proofs.lemmas.Option.none-some, proofs.lemmas.Option.same_Some}
 use Rattle.dcd_base.specs.declared.capacity.Extent.{Extent}
 use Rattle.region_config.specs.Configurations.{Configuration}
 use Rattle.journal_core.specs.declared.outcome.Effect.{Effect}
-use Rattle.plan_rules.specs.declared.demands.Demand.{Demand}
-use Rattle.plan_rules.specs.Holding.{Step, stepped}
-use Rattle.plan_rules.specs.Listing.{gained, gaining}
-use Rattle.pool_planner.specs.Trials.{GoesOnTo, TriesMore}
-use Rattle.pool_planner.specs.declared.trial.Trial.{Trial}
-use Rattle.pool_planner.proofs.Taking.{takes_then}
+use Rattle.plan_rules.specs.{declared.demands.Demand.Demand, Holding.Step, Holding.stepped, Listing.gained, Listing.gaining}
+use Rattle.pool_planner.{specs.Trials.GoesOnTo, specs.Trials.TriesMore, specs.declared.trial.Trial.Trial, proofs.Taking.takes_then}
 
 pub goes_more : (c : Configuration) (past : List Effect) (old now new : Trial) (whole : List Step) (xs : List Demand) (i : ℕ) (z : Demand) →
     now.control.config ≡ c → i < length xs → GoesOnTo old now whole (gaining c past now.control.entries (drop i xs)) →

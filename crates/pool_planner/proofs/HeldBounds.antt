@@ -1,30 +1,13 @@
 -- What every legal journal keeps of the extents of a host, in numbers.
 use Rattle.std.proofs.Common.{Bool, inl, inr, ◌≡◌, ◌+◌, ◌^◌, ◌<◌, ◌≤◌, List, [], ◌∷◌, ◌++◌, length, arith, refl}
-use Rattle.std.specs.Prelude.{All, flat_map}
-use Rattle.std.specs.List.{AllByRecursion, filter}
-use Rattle.std.proofs.lemmas.Bool.{cases_Bool}
-use Rattle.std.proofs.lemmas.List.{length-append}
-use Rattle.std.proofs.lemmas.List.Elements.{All-cons, All-nil}
-use Rattle.std.proofs.lemmas.List.FromFn.{length-range_with_len}
-use Rattle.dcd_base.specs.declared.capacity.Extent.{Extent}
-use Rattle.dcd_base.specs.declared.ids.HostId.{HostId}
-use Rattle.dcd_base.specs.declared.steps.LogId.{LogId}
+use Rattle.std.proofs.lemmas.{Bool.cases_Bool, List.length-append, List.Elements.All-cons, List.Elements.All-nil, List.FromFn.length-range_with_len}
+use Rattle.std.specs.{List.AllByRecursion, List.filter, Prelude.All, Prelude.flat_map}
+use Rattle.dcd_base.specs.declared.{capacity.Extent.Extent, ids.HostId.HostId, steps.LogId.LogId}
 use Rattle.event_log.specs.Logs.{places_in, state_of}
-use Rattle.region_config.specs.Configurations.{Configuration}
-use Rattle.region_config.specs.Granules.{granule_total}
-use Rattle.region_config.specs.Soundness.{IsSound}
-use Rattle.region_config.proofs.Faultless.{region_ends}
-use Rattle.journal_core.specs.Entries.{effects}
-use Rattle.journal_core.specs.declared.entries.Entry.{Entry}
-use Rattle.journal_core.specs.declared.outcome.Effect.{Effect}
-use Rattle.device_plain.specs.device_rules.specs.Counts.{dirty_count, records_of}
-use Rattle.device_plain.specs.device_rules.specs.Hosts.{accepted_of, offers_of}
-use Rattle.device_plain.specs.device_rules.specs.Legal.{Legal}
-use Rattle.device_plain.specs.device_rules.specs.Logs.{log_of}
-use Rattle.device_plain.specs.device_rules.specs.Tags.{all_granules, is_dirty, status}
-use Rattle.device_plain.specs.device_rules.specs.Pictures.{Picture, picture_of}
-use Rattle.device_plain.specs.device_rules.specs.Standing.{IsHome}
-use Rattle.device_plain.specs.device_rules.proofs.LegalSound.{legal_is_sound}
+use Rattle.region_config.{specs.Configurations.Configuration, specs.Granules.granule_total, specs.Soundness.IsSound, proofs.Faultless.region_ends}
+use Rattle.journal_core.specs.{Entries.effects, declared.entries.Entry.Entry, declared.outcome.Effect.Effect}
+use Rattle.device_plain.specs.device_rules.{proofs.LegalSound.legal_is_sound, specs.Counts.dirty_count, specs.Counts.records_of, specs.Hosts.accepted_of, specs.Hosts.offers_of, specs.Legal.Legal}
+use Rattle.device_plain.specs.device_rules.specs.{Logs.log_of, Pictures.Picture, Pictures.picture_of, Standing.IsHome, Tags.all_granules, Tags.is_dirty, Tags.status}
 
 Ends : Extent → Type 0
 Ends x = x.start + x.length < 2 ^ 64

@@ -2,8 +2,7 @@
 use Rattle.std.proofs.Common.{◌≡◌, ℕ, ◌+◌, List, ◌++◌, take, sym, ap, ◌∙◌, append-nil}
 use Rattle.std.specs.Prelude.{reverse}
 use Rattle.dcd_base.specs.declared.capacity.Extent.{Extent}
-use Rattle.plan_rules.specs.Listing.{last_bytes}
-use Rattle.plan_rules.proofs.LastBytes.{none_last as last_none}
+use Rattle.plan_rules.{specs.Listing.last_bytes, proofs.LastBytes.none_last as last_none}
 
 -- What is listed so far goes on to the whole list, where so many extents are still to be tried.
 pub record GoesOn (bytes n left : ℕ) (xs list : List Extent) : Type 0 where

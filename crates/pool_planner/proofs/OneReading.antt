@@ -1,14 +1,9 @@
 -- Bytes state one script and one list of demands.
 use Rattle.std.proofs.Common.{◌≡◌, ◌≢◌, ℕ, List, [], ◌∷◌, Ok, Err, refl, sym, ap, subst, ◌∙◌}
-use Rattle.std.proofs.lemmas.Option.{same_Some}
-use Rattle.std.specs.List.{AllZip}
-use Rattle.std.specs.Prelude.{codes, option_and_then}
-use Rattle.serde_json.specs.Data.{Data}
-use Rattle.serde_json.specs.Find.{as_array, as_number, as_u64}
+use Rattle.std.{proofs.lemmas.Option.same_Some, specs.List.AllZip, specs.Prelude.codes, specs.Prelude.option_and_then}
+use Rattle.serde_json.specs.{Data.Data, Find.as_array, Find.as_number, Find.as_u64}
 use Rattle.plan_rules.specs.DemandTexts.{IsArrayOf, IsReadAsDemands, IsWhole, MemberIs, StatesDemand, StatesDemands, items_in}
-use Rattle.plan_rules.specs.declared.demands.Demand.{Demand}
-use Rattle.plan_rules.specs.declared.demands.Demands.{Demands}
-use Rattle.plan_rules.specs.declared.demand_faults.DemandFault.{DemandFault}
+use Rattle.plan_rules.specs.declared.{demand_faults.DemandFault.DemandFault, demands.Demand.Demand, demands.Demands.Demands}
 
 one_number : (d : Data) (m n : ℕ) → IsWhole d m → IsWhole d n → m ≡ n
 one_number d m n a b = same_Some m n (ap (λ x. option_and_then as_u64 (as_number x)) (sym a.value ∙ b.value))

@@ -1,18 +1,11 @@
 -- Demands that are named well: where they are, and how many they can be.
 use Rattle.std.proofs.Common.{◌≡◌, ℕ, zero, suc, ◌+◌, ◌*◌, ◌<◌, ◌≤◌, Bool, true, false, leb, ◌||◌, ◌==◌, List, [], ◌∷◌, length, get_or, take, map, refl, sym, ap, subst, ◌∙◌, arith, inl, inr}
+use Rattle.std.proofs.lemmas.Bool.{and_from, cases_Bool, eq-eqb, eqb-true, leb-false, Decides.Decides-eqb}
+use Rattle.std.proofs.lemmas.{List.get_or-map, List.get_or-take, List.length-map, List.length-take, List.Folds.list_any_at, Map.Made.IsDistinct-from_AllPairs, Map.Steps.length-le_from_distinct_below}
 use Rattle.std.specs.List.{AllPairs, list_any}
-use Rattle.std.proofs.lemmas.Bool.{and_from, cases_Bool, eq-eqb, eqb-true, leb-false}
-use Rattle.std.proofs.lemmas.Bool.Decides.{Decides-eqb}
-use Rattle.std.proofs.lemmas.List.{get_or-map, get_or-take, length-map, length-take}
-use Rattle.std.proofs.lemmas.List.Folds.{list_any_at}
-use Rattle.std.proofs.lemmas.Map.Made.{IsDistinct-from_AllPairs}
-use Rattle.std.proofs.lemmas.Map.Steps.{length-le_from_distinct_below}
-use Rattle.region_config.specs.Configurations.{Configuration}
-use Rattle.region_config.specs.Granules.{region_spec}
-use Rattle.region_config.specs.Soundness.{IsSound}
-use Rattle.plan_rules.specs.declared.demands.Demand.{Demand}
+use Rattle.region_config.specs.{Configurations.Configuration, Granules.region_spec, Soundness.IsSound}
+use Rattle.plan_rules.specs.{Planning.has_number, Planning.is_bad_dead, Planning.is_bad_demand, Planning.no_demand, Planning.same_place, declared.demands.Demand.Demand}
 use Rattle.plan_rules.specs.declared.demands.Demands.{Demands}
-use Rattle.plan_rules.specs.Planning.{has_number, is_bad_dead, is_bad_demand, no_demand, same_place}
 use Rattle.pool_planner.specs.Naming.{ArePlaced, IsPlaced}
 
 not_false : true ≡ false → ⊥

@@ -1,24 +1,14 @@
 -- An input with which nothing is wrong is not refused.
 use Rattle.std.proofs.Common.{◌≡◌, ℕ, ◌<◌, ◌≤◌, List, [], Some, Ok, Err, length, refl, sym, ap, subst, ◌∙◌, arith}
-use Rattle.std.proofs.lemmas.Option.{none-some, same_Some}
-use Rattle.std.specs.Prelude.{IfOk}
-use Rattle.std.specs.Result.{result_ok}
-use Rattle.std.specs.declared.result.Result.{Result}
+use Rattle.std.{proofs.lemmas.Option.none-some, proofs.lemmas.Option.same_Some, specs.Prelude.IfOk, specs.Result.result_ok, specs.declared.result.Result.Result}
 use Rattle.dcd_base.specs.declared.failures.NoMemory.{NoMemory}
-use Rattle.edge_io.specs.Ends.{IsDecided}
-use Rattle.edge_io.specs.Meanings.{Decides}
-use Rattle.report.specs.script_codec.specs.Frames.{script_part, text_part}
-use Rattle.report.specs.script_codec.specs.Reading.{fault_of, first_fault}
-use Rattle.report.specs.script_codec.specs.Scripts.{ReadsScript}
-use Rattle.report.specs.script_codec.specs.declared.faults.ScriptFault.{ScriptFault}
-use Rattle.report.specs.script_codec.specs.declared.scripts.Script.{Script}
-use Rattle.report.specs.script_codec.proofs.ScriptLaws.{script_is}
-use Rattle.plan_rules.specs.Planning.{plan_fault}
-use Rattle.plan_rules.specs.declared.faults.PlanFault.{PlanFault}
-use Rattle.pool_planner.specs.PlanEnds.{IsFrameEnd, IsPlanEnd, IsScriptJournal, IsSoundInput, most_of_frame, planner}
-use Rattle.pool_planner.specs.PlanStatuses.{plan_end}
-use Rattle.pool_planner.specs.declared.status.PlanStatus.{PlanStatus}
+use Rattle.edge_io.specs.{Ends.IsDecided, Meanings.Decides}
+use Rattle.report.specs.script_codec.{proofs.ScriptLaws.script_is, specs.Frames.script_part, specs.Frames.text_part, specs.Reading.fault_of, specs.Reading.first_fault, specs.Scripts.ReadsScript}
+use Rattle.report.specs.script_codec.specs.declared.{faults.ScriptFault.ScriptFault, scripts.Script.Script}
+use Rattle.plan_rules.specs.{Planning.plan_fault, declared.faults.PlanFault.PlanFault}
 use Rattle.pool_planner.proofs.OneReading.{no_fault, one_reading}
+use Rattle.pool_planner.specs.{PlanEnds.IsFrameEnd, PlanEnds.IsPlanEnd, PlanEnds.IsScriptJournal, PlanEnds.IsSoundInput, PlanEnds.most_of_frame, PlanEnds.planner, PlanStatuses.plan_end}
+use Rattle.pool_planner.specs.declared.status.PlanStatus.{PlanStatus}
 
 not_refused : (bytes : List ℕ) (fault : ScriptFault) (s : Script) → ReadsScript bytes s → first_fault bytes ≡ Some fault → ⊥
 not_refused bytes fault s reads e = none-some fault (sym (ap fault_of (script_is bytes s reads)) ∙ e)

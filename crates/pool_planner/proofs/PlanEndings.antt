@@ -1,24 +1,12 @@
 -- From how a part of a plan ends to how the whole ends.
 use Rattle.std.proofs.Common.{◌≡◌, ◌≢◌, ℕ, List, Some, None, Ok, Err, refl, sym, ap, subst, ◌∙◌}
-use Rattle.std.specs.Prelude.{IfOk}
-use Rattle.std.specs.declared.result.Result.{Result}
+use Rattle.std.specs.{Prelude.IfOk, declared.result.Result.Result}
 use Rattle.dcd_base.specs.declared.failures.NoMemory.{NoMemory}
 use Rattle.region_config.specs.Configurations.{Configuration}
-use Rattle.journal_core.specs.Entries.{effects}
-use Rattle.journal_core.specs.declared.entries.Entry.{Entry}
-use Rattle.plan_rules.specs.declared.demands.Demands.{Demands}
-use Rattle.plan_rules.specs.Holding.{Step, stepped}
-use Rattle.plan_rules.specs.Listing.{planned}
-use Rattle.plan_rules.specs.Meeting.{MeetsDemands}
-use Rattle.plan_rules.specs.PlanAlike.{PlanAlike}
-use Rattle.plan_rules.specs.Planning.{IsPlan, plan_fault}
-use Rattle.plan_rules.specs.declared.faults.PlanFault.{PlanFault}
-use Rattle.plan_rules.proofs.AlikePlans.{plan_fault_same, planned_same}
-use Rattle.plan_rules.proofs.AlikeSteps.{alike_stepped}
-use Rattle.plan_rules.proofs.Succeeding.{all_succeed}
-use Rattle.pool_planner.specs.PlanPrinting.{plan_text}
-use Rattle.pool_planner.specs.PlanEnds.{IsPlannedEnd}
-use Rattle.pool_planner.specs.declared.status.PlanStatus.{PlanStatus}
+use Rattle.journal_core.specs.{Entries.effects, declared.entries.Entry.Entry}
+use Rattle.plan_rules.{proofs.AlikePlans.plan_fault_same, proofs.AlikePlans.planned_same, proofs.AlikeSteps.alike_stepped, proofs.Succeeding.all_succeed, specs.Holding.Step, specs.Holding.stepped}
+use Rattle.plan_rules.specs.{Listing.planned, Meeting.MeetsDemands, PlanAlike.PlanAlike, Planning.IsPlan, Planning.plan_fault, declared.demands.Demands.Demands, declared.faults.PlanFault.PlanFault}
+use Rattle.pool_planner.specs.{PlanPrinting.plan_text, PlanEnds.IsPlannedEnd, declared.status.PlanStatus.PlanStatus}
 
 -- ---- over a device
 

@@ -1,26 +1,15 @@
 -- What a plan answers, by what was found on the way.
 use Rattle.std.proofs.Common.{◌≡◌, List, [], ◌++◌, Option, Some, None, sym, ap, subst, ◌∙◌}
-use Rattle.std.specs.Prelude.{IfErr, IfOk, option_map}
-use Rattle.std.specs.declared.result.Result.{Result}
-use Rattle.std.specs.declared.result.Result.TheVariants.{Ok, Err}
+use Rattle.std.specs.{Prelude.IfErr, Prelude.IfOk, Prelude.option_map, declared.result.Result.Result, declared.result.Result.TheVariants.Ok, declared.result.Result.TheVariants.Err}
 use Rattle.dcd_base.specs.Words.{◌or◌}
 use Rattle.region_config.specs.Configurations.{Configuration}
-use Rattle.journal_core.specs.Entries.{effects}
-use Rattle.journal_core.specs.declared.entries.Entry.{Entry}
-use Rattle.journal_core.specs.declared.outcome.Effect.{Effect}
-use Rattle.plan_rules.specs.declared.demands.Demands.{Demands}
-use Rattle.plan_rules.specs.Holding.{Step, stepped}
-use Rattle.plan_rules.specs.Listing.{gaining, losing, planned, prepared, zeroing}
-use Rattle.plan_rules.specs.PlanAlike.{PlanAlike, replayed}
+use Rattle.journal_core.specs.{Entries.effects, declared.entries.Entry.Entry, declared.outcome.Effect.Effect}
+use Rattle.plan_rules.{proofs.AlikePlans.plan_fault_same, proofs.AlikePlans.planned_same, proofs.Succeeding.all_succeed, specs.Holding.Step, specs.Holding.stepped}
+use Rattle.plan_rules.specs.{Listing.gaining, Listing.losing, Listing.planned, Listing.prepared, Listing.zeroing, Meeting.MeetsDemands, PlanAlike.PlanAlike, PlanAlike.replayed}
+use Rattle.plan_rules.specs.{WholePlans.PlansMeetDemands, WholePlans.PlansWantRoomOnly, declared.demands.Demands.Demands, declared.faults.PlanFault.PlanFault}
 use Rattle.plan_rules.specs.Planning.{AllSucceed, IsOfRoom, IsPlan, is_open, lowest_below, named_fault, plan_fault, refused_in, short_fault}
-use Rattle.plan_rules.specs.declared.faults.PlanFault.{PlanFault}
-use Rattle.plan_rules.proofs.AlikePlans.{plan_fault_same, planned_same}
-use Rattle.plan_rules.proofs.Succeeding.{all_succeed}
-use Rattle.plan_rules.specs.Meeting.{MeetsDemands}
-use Rattle.plan_rules.specs.WholePlans.{PlansMeetDemands, PlansWantRoomOnly}
-use Rattle.pool_planner.specs.Trials.{IsFinished, IsPrepared, IsTried, TriesMore, short_between}
+use Rattle.pool_planner.{proofs.Taking.takes_then, specs.Trials.IsFinished, specs.Trials.IsPrepared, specs.Trials.IsTried, specs.Trials.TriesMore, specs.Trials.short_between}
 use Rattle.pool_planner.specs.declared.trial.Trial.{Trial}
-use Rattle.pool_planner.proofs.Taking.{takes_then}
 
 pub plan_err : (c : Configuration) (journal : List Entry) (q : Demands) (fault : PlanFault) → plan_fault c journal q ≡ Some fault → IsPlan c journal q (Err fault)
 plan_err c journal q (PlanFault.BadDemand i) is = is

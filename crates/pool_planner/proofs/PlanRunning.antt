@@ -1,33 +1,14 @@
 -- The device behind a script and behind a list: one more line, and one more step.
 use Rattle.std.proofs.Common.{◌≡◌, ℕ, ◌+◌, true, List, [], ◌∷◌, ◌++◌, length, refl, sym, ap, subst, ◌∙◌, arith, append-nil, inl, inr}
-use Rattle.std.specs.List.{list_any}
-use Rattle.std.specs.Prelude.{if◌then◌else◌, IsFalse}
-use Rattle.std.proofs.lemmas.Bool.{cases_Bool}
-use Rattle.std.proofs.lemmas.List.{length_push}
-use Rattle.std.proofs.lemmas.List.Sums.{fold_push}
-use Rattle.dcd_base.specs.declared.ids.HostId.{HostId}
-use Rattle.dcd_base.specs.declared.steps.Actor.{Actor}
+use Rattle.std.{specs.List.list_any, specs.Prelude.if◌then◌else◌, specs.Prelude.IsFalse, proofs.lemmas.Bool.cases_Bool, proofs.lemmas.List.length_push, proofs.lemmas.List.Sums.fold_push}
+use Rattle.dcd_base.specs.declared.{ids.HostId.HostId, steps.Actor.Actor}
 use Rattle.region_config.specs.Configurations.{Configuration}
-use Rattle.journal_core.specs.Entries.{effects, is_control}
-use Rattle.journal_core.specs.declared.acts.Act.{Act}
-use Rattle.journal_core.specs.declared.entries.Entry.{Entry}
+use Rattle.journal_core.{proofs.EachPlaces.Each-at, proofs.JournalSteps.effects-push, specs.Entries.effects, specs.Entries.is_control, specs.declared.acts.Act.Act, specs.declared.entries.Entry.Entry}
 use Rattle.journal_core.specs.declared.outcome.Effect.{Effect}
-use Rattle.journal_core.proofs.EachPlaces.{Each-at}
-use Rattle.journal_core.proofs.JournalSteps.{effects-push}
-use Rattle.device_plain.specs.device_rules.specs.Answers.{answer}
-use Rattle.device_plain.specs.device_rules.specs.Hosts.{changes_of, moves}
-use Rattle.device_plain.specs.device_rules.specs.Legal.{Legal, Meets, right_answer}
-use Rattle.device_plain.specs.device_rules.proofs.Answered.{answer_same}
-use Rattle.device_plain.specs.device_rules.proofs.LegalSteps.{by_steps}
-use Rattle.device_plain.specs.Devices.{Plain}
-use Rattle.device_plain.specs.Numbering.{commands_of}
-use Rattle.device_plain.proofs.Numbered.{commands-push}
-use Rattle.report.specs.script_codec.specs.Covering.{IsEntryOf, Runs}
-use Rattle.report.specs.script_codec.specs.declared.script_line.Line.{Line}
-use Rattle.report.specs.script_codec.proofs.CoveringLaws.{Runs-do, Runs-mark}
-use Rattle.plan_rules.specs.Holding.{Step, entry_of_step, stepped}
-use Rattle.plan_rules.specs.PlanAlike.{PlanAlike}
-use Rattle.plan_rules.proofs.AlikeSteps.{alike_push}
+use Rattle.device_plain.{proofs.Numbered.commands-push, specs.Devices.Plain, specs.Numbering.commands_of, specs.device_rules.proofs.Answered.answer_same, specs.device_rules.proofs.LegalSteps.by_steps}
+use Rattle.device_plain.specs.device_rules.specs.{Answers.answer, Hosts.changes_of, Hosts.moves, Legal.Legal, Legal.Meets, Legal.right_answer}
+use Rattle.report.specs.script_codec.{specs.Covering.IsEntryOf, specs.Covering.Runs, specs.declared.script_line.Line.Line, proofs.CoveringLaws.Runs-do, proofs.CoveringLaws.Runs-mark}
+use Rattle.plan_rules.{specs.Holding.Step, specs.Holding.entry_of_step, specs.Holding.stepped, specs.PlanAlike.PlanAlike, proofs.AlikeSteps.alike_push}
 use Rattle.pool_planner.specs.PlanRuns.{AddsScriptLine, IsBehind, IsBehindList}
 
 -- ---- lines of a script

@@ -1,15 +1,12 @@
 -- The first refused act of a list, with one more act.
 use Rattle.std.proofs.Common.{◌≡◌, ℕ, zero, suc, ◌+◌, ◌<◌, List, [], ◌∷◌, ◌++◌, length, take, Option, Some, None, refl, sym, ap, ◌∙◌, arith, add-zero}
-use Rattle.std.specs.Prelude.{if◌then◌else◌, is_some, option_and_then, option_map, slice_get}
-use Rattle.std.specs.List.{find, range_with_len}
+use Rattle.std.specs.{Prelude.if◌then◌else◌, Prelude.is_some, Prelude.option_and_then, Prelude.option_map, Prelude.slice_get, List.find, List.range_with_len}
 use Rattle.dcd_base.specs.Words.{◌or◌}
 use Rattle.dcd_codes.specs.declared.rules.Rule.{Rule}
 use Rattle.region_config.specs.Configurations.{Configuration}
 use Rattle.journal_core.specs.declared.entries.Entry.{Entry}
 use Rattle.device_plain.specs.device_rules.specs.Answers.{broken}
-use Rattle.plan_rules.specs.Holding.{Step, stepped}
-use Rattle.plan_rules.specs.Planning.{broken_at, broken_by, refused_in}
-use Rattle.plan_rules.specs.declared.faults.PlanFault.{PlanFault}
+use Rattle.plan_rules.specs.{Holding.Step, Holding.stepped, Planning.broken_at, Planning.broken_by, Planning.refused_in, declared.faults.PlanFault.PlanFault}
 
 or_none : {X : Type 0} (a : Option X) → (a or None) ≡ a
 or_none None = refl

@@ -1,12 +1,9 @@
 -- A length in bytes stands in a message modulo 2^64.
 use Rattle.std.proofs.Common.{◌≡◌, ℕ, ◌/◌, ◌%◌, ◌^◌, List, [], ◌∷◌, ◌++◌, refl, sym, ◌∙◌, arith}
 use Rattle.std.specs.Int.{to_le_bytes, w8, w16, w32, w64}
-use Rattle.dcd_base.specs.Words.{zero_tag}
-use Rattle.dcd_base.specs.declared.ids.HostId.{HostId}
-use Rattle.dcd_base.specs.declared.steps.Actor.{Actor}
+use Rattle.dcd_base.specs.{Words.zero_tag, declared.ids.HostId.HostId, declared.steps.Actor.Actor}
 use Rattle.journal_core.specs.declared.acts.Act.{Act}
-use Rattle.plan_rules.specs.Holding.{Step}
-use Rattle.plan_rules.specs.Listing.{add_step}
+use Rattle.plan_rules.specs.{Holding.Step, Listing.add_step}
 
 byte_0 : (n : ℕ) → n % 18446744073709551616 % 256 ≡ n % 256
 byte_0 n = omega arith

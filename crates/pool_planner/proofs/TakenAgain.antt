@@ -1,10 +1,7 @@
 -- The entries of a legal journal fit, so that they can be taken again.
-use Rattle.std.proofs.Common.{List}
-use Rattle.std.specs.Prelude.{All, IsTrue}
+use Rattle.std.{proofs.Common.List, specs.Prelude.All, specs.Prelude.IsTrue}
 use Rattle.region_config.specs.Configurations.{Configuration}
-use Rattle.journal_core.specs.Entries.{fits}
-use Rattle.journal_core.specs.declared.entries.Entry.{Entry}
-use Rattle.journal_core.proofs.EachPlaces.{Each-all}
+use Rattle.journal_core.{specs.Entries.fits, specs.declared.entries.Entry.Entry, proofs.EachPlaces.Each-all}
 use Rattle.device_plain.specs.device_rules.specs.Legal.{Legal, Meets}
 
 pub all_fit : (c : Configuration) (journal : List Entry) → Legal c journal → All (λ (e : Entry). IsTrue (fits c.hosts e.actor e.act)) journal

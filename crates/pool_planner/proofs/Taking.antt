@@ -1,22 +1,13 @@
 -- Acts that are tried one after another.
 use Rattle.std.proofs.Common.{◌≡◌, ℕ, ◌+◌, ◌<◌, List, [], ◌∷◌, ◌++◌, length, get_or, take, refl, sym, ap, subst, ◌∙◌, append_assoc, append-nil, add-one, add-zero, zero-add, zero, suc, arith, true, false}
-use Rattle.std.specs.Prelude.{◌==◌, OnOk, flat_map, option_map}
-use Rattle.std.specs.List.{range_with_len}
-use Rattle.std.specs.declared.result.Result.{Result}
-use Rattle.std.specs.declared.result.Result.TheVariants.{Ok, Err}
-use Rattle.std.proofs.lemmas.Bool.{eqb-true}
-use Rattle.std.proofs.lemmas.Grind.{flat_map-append}
-use Rattle.std.proofs.lemmas.List.{take_more}
+use Rattle.std.{proofs.lemmas.Bool.eqb-true, proofs.lemmas.Grind.flat_map-append, proofs.lemmas.List.take_more, specs.List.range_with_len}
+use Rattle.std.specs.{Prelude.◌==◌, Prelude.OnOk, Prelude.flat_map, Prelude.option_map, declared.result.Result.Result, declared.result.Result.TheVariants.Ok, declared.result.Result.TheVariants.Err}
 use Rattle.dcd_base.specs.Words.{◌or◌}
 use Rattle.region_config.specs.Configurations.{Configuration}
 use Rattle.journal_core.specs.declared.entries.Entry.{Entry}
 use Rattle.device_plain.specs.device_rules.specs.Answers.{broken}
-use Rattle.plan_rules.specs.Holding.{Step, entry_of_step, stepped}
-use Rattle.plan_rules.specs.Listing.{for_some}
-use Rattle.plan_rules.specs.declared.faults.PlanFault.{PlanFault}
-use Rattle.pool_planner.specs.Trials.{IsTried, TriesMore}
-use Rattle.pool_planner.specs.declared.trial.Trial.{Trial}
-use Rattle.pool_planner.proofs.Refusing.{refused_push}
+use Rattle.plan_rules.specs.{Holding.Step, Holding.entry_of_step, Holding.stepped, Listing.for_some, declared.faults.PlanFault.PlanFault}
+use Rattle.pool_planner.{specs.Trials.IsTried, specs.Trials.TriesMore, specs.declared.trial.Trial.Trial, proofs.Refusing.refused_push}
 
 pub stepped_append : (c : Configuration) (start : List Entry) (a b : List Step) → stepped c start (a ++ b) ≡ stepped c (stepped c start a) b
 stepped_append c start [] b = refl

@@ -1,7 +1,6 @@
 -- What a host's message lists has no tags.
 use Rattle.std.proofs.Common.{◌≡◌, ℕ, ◌-◌, Bool, true, false, List, [], ◌∷◌, refl}
-use Rattle.std.specs.Prelude.{◌==◌, if◌then◌else◌}
-use Rattle.std.specs.List.{list_all}
+use Rattle.std.specs.{Prelude.◌==◌, Prelude.if◌then◌else◌, List.list_all}
 use Rattle.dcd_base.specs.declared.capacity.Extent.{Extent}
 use Rattle.host_payloads.specs.HostPayloads.{is_untagged}
 use Rattle.plan_rules.specs.Listing.{last_bytes, last_part}

@@ -1,8 +1,7 @@
 -- Demands that name what the device has.
 use Rattle.std.specs.Prelude.{ℕ, ◌<◌, ◌≤◌, get_or, length}
 use Rattle.region_config.specs.Configurations.{Configuration}
-use Rattle.plan_rules.specs.declared.demands.Demand.{Demand}
-use Rattle.plan_rules.specs.declared.demands.Demands.{Demands}
+use Rattle.plan_rules.specs.declared.demands.{Demand.Demand, Demands.Demands}
 
 -- The demand's host and region are of the device.
 pub record IsPlaced (c : Configuration) (x : Demand) : Type 0 where

@@ -2,25 +2,13 @@
 use Rattle.std.specs.Prelude.{◌≡◌, ◌≢◌, ℕ, ◌<◌, ◌≤◌, List, [], length, Some, None, Ok, Err}
 use Rattle.edge_io.specs.Meanings.{Meaning, asks_nothing}
 use Rattle.region_config.specs.Configurations.{Configuration}
-use Rattle.journal_core.specs.Entries.{effects}
-use Rattle.journal_core.specs.declared.entries.Entry.{Entry}
+use Rattle.journal_core.specs.{Entries.effects, declared.entries.Entry.Entry}
 use Rattle.device_plain.specs.device_rules.specs.Legal.{Legal}
-use Rattle.report.specs.script_codec.specs.Covering.{Runs}
-use Rattle.report.specs.script_codec.specs.Frames.{needed, script_part, text_part}
-use Rattle.report.specs.script_codec.specs.Reading.{first_fault}
-use Rattle.report.specs.script_codec.specs.Scripts.{ReadsScript}
-use Rattle.report.specs.script_codec.specs.declared.faults.ScriptFault.{ScriptFault}
-use Rattle.report.specs.script_codec.specs.declared.scripts.Script.{Script}
-use Rattle.report.specs.Refusals.{refusal_line}
-use Rattle.plan_rules.specs.DemandTexts.{IsReadAsDemands}
-use Rattle.plan_rules.specs.declared.demands.Demands.{Demands}
-use Rattle.plan_rules.specs.declared.demand_faults.DemandFault.{DemandFault}
-use Rattle.plan_rules.specs.Holding.{stepped}
-use Rattle.plan_rules.specs.Listing.{planned}
-use Rattle.plan_rules.specs.Meeting.{MeetsDemands}
-use Rattle.plan_rules.specs.Planning.{AllSucceed, plan_fault}
-use Rattle.pool_planner.specs.PlanPrinting.{demands_refused, plan_fault_line, plan_text, planner_usage_line}
-use Rattle.pool_planner.specs.PlanStatuses.{plan_end}
+use Rattle.report.specs.{Refusals.refusal_line, script_codec.specs.Covering.Runs, script_codec.specs.Frames.needed, script_codec.specs.Frames.script_part, script_codec.specs.Frames.text_part}
+use Rattle.report.specs.script_codec.specs.{Reading.first_fault, Scripts.ReadsScript, declared.faults.ScriptFault.ScriptFault, declared.scripts.Script.Script}
+use Rattle.plan_rules.specs.{DemandTexts.IsReadAsDemands, Holding.stepped, Listing.planned, Meeting.MeetsDemands, Planning.AllSucceed, Planning.plan_fault}
+use Rattle.plan_rules.specs.declared.{demand_faults.DemandFault.DemandFault, demands.Demands.Demands}
+use Rattle.pool_planner.specs.{PlanPrinting.demands_refused, PlanPrinting.plan_fault_line, PlanPrinting.plan_text, PlanPrinting.planner_usage_line, PlanStatuses.plan_end}
 use Rattle.pool_planner.specs.declared.status.PlanStatus.{PlanStatus}
 
 -- ---- the frame: a script, and demands behind it

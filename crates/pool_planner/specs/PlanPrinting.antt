@@ -3,13 +3,9 @@ use Rattle.std.specs.Prelude.{ℕ, ◌^◌, ◌<◌, List, [], ◌∷◌, ◌++�
 use Rattle.hex.specs.Hex.{encode_lower}
 use Rattle.cci_codec.specs.Messages.{request_bytes}
 use Rattle.region_config.specs.Configurations.{Configuration}
-use Rattle.journal_core.specs.Entries.{effects, fits}
-use Rattle.journal_core.specs.declared.acts.Act.{Act}
-use Rattle.journal_core.specs.declared.entries.Entry.{Entry}
+use Rattle.journal_core.specs.{Entries.effects, Entries.fits, declared.acts.Act.Act, declared.entries.Entry.Entry}
 use Rattle.report.specs.Texts.{actor_name, line_of, state_lines}
-use Rattle.plan_rules.specs.declared.demand_faults.DemandFault.{DemandFault}
-use Rattle.plan_rules.specs.Holding.{Step, stepped}
-use Rattle.plan_rules.specs.declared.faults.PlanFault.{PlanFault}
+use Rattle.plan_rules.specs.{declared.demand_faults.DemandFault.DemandFault, Holding.Step, Holding.stepped, declared.faults.PlanFault.PlanFault}
 
 -- ---- what a list has
 

@@ -1,12 +1,9 @@
 -- The device behind the lines of a script, and behind a list.
 use Rattle.std.specs.Prelude.{◌≡◌, ℕ, List, [], ◌∷◌, ◌++◌, length}
-use Rattle.device_plain.specs.Devices.{Plain}
-use Rattle.device_plain.specs.device_rules.specs.Legal.{Legal}
+use Rattle.device_plain.specs.{Devices.Plain, device_rules.specs.Legal.Legal}
 use Rattle.journal_core.specs.declared.entries.Entry.{Entry}
-use Rattle.report.specs.script_codec.specs.Covering.{IsEntryOf}
-use Rattle.report.specs.script_codec.specs.declared.script_line.Line.{Line}
-use Rattle.plan_rules.specs.Holding.{Step, stepped}
-use Rattle.plan_rules.specs.PlanAlike.{PlanAlike}
+use Rattle.report.specs.script_codec.specs.{Covering.IsEntryOf, declared.script_line.Line.Line}
+use Rattle.plan_rules.specs.{Holding.Step, Holding.stepped, PlanAlike.PlanAlike}
 
 -- The line of this number was done: it has the next entry, or is a mark.
 abbrev pub AddsScriptLine : ℕ → ℕ → ℕ → Line → List Entry → List Entry → Type 0

@@ -1,17 +1,11 @@
 -- A list of acts that is tried on a control of its own.
 use Rattle.std.specs.Prelude.{◌≡◌, ◌==◌, ◌++◌, ℕ, if◌then◌else◌, List, Option, None, Some, length, nat_lt, option_map}
-use Rattle.std.specs.declared.result.Result.{Result}
-use Rattle.std.specs.declared.result.Result.TheVariants.{Ok, Err}
+use Rattle.std.specs.declared.result.Result.{Result, TheVariants.Ok, TheVariants.Err}
 use Rattle.region_config.specs.Configurations.{Configuration}
-use Rattle.journal_core.specs.declared.entries.Entry.{Entry}
-use Rattle.plan_rules.specs.Holding.{Step, gain, stepped}
-use Rattle.plan_rules.specs.Planning.{free_in, lowest_below, need_in, refused_in}
-use Rattle.journal_core.specs.declared.outcome.Effect.{Effect}
-use Rattle.plan_rules.specs.declared.demands.Demand.{Demand}
-use Rattle.plan_rules.specs.declared.demands.Demands.{Demands}
+use Rattle.journal_core.specs.declared.{entries.Entry.Entry, outcome.Effect.Effect}
+use Rattle.plan_rules.specs.{Holding.Step, Holding.gain, Holding.stepped, Listing.prepared, PlanAlike.PlanAlike, PlanAlike.replayed}
+use Rattle.plan_rules.specs.{Planning.free_in, Planning.lowest_below, Planning.need_in, Planning.refused_in, declared.demands.Demand.Demand, declared.demands.Demands.Demands}
 use Rattle.plan_rules.specs.declared.faults.PlanFault.{PlanFault}
-use Rattle.plan_rules.specs.Listing.{prepared}
-use Rattle.plan_rules.specs.PlanAlike.{PlanAlike, replayed}
 use Rattle.pool_planner.specs.declared.trial.Trial.{Trial}
 
 -- These acts were tried from these entries on, and the first refused one is known.

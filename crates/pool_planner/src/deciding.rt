@@ -9,7 +9,7 @@ ghost use Rattle.std.specs.Prelude.{◌≡◌, ◌≤◌, IfOk, length};
 use crate::plan;
 use crate::printing::act_lines;
 use crate::refusals::{demands_refusal, plan_refusal, script_refusal};
-use crate::running::{are_sound, write_state, run_lines, take_steps};
+use crate::running::{are_sound, run_lines, take_steps, write_state};
 use crate::status::PlanStatus;
 use dcd_base::{Actor, Bytes, NoMemory};
 use device_plain::Device;

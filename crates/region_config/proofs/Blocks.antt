@@ -1,14 +1,10 @@
 -- Another supported block leaves a configuration without fault.
 use Rattle.std.proofs.Common.{◌≡◌, ◌≢◌, ℕ, zero, suc, ◌/◌, ◌^◌, ◌<◌, true, false, not, length, None, refl, ap, sym, ◌∙◌, subst, inl, inr}
-use Rattle.std.proofs.lemmas.Bool.{cases_eq, or_parts, or_from, not_from_true}
-use Rattle.std.proofs.lemmas.List.{get_or-set_other, get_or-set_same, length-set}
+use Rattle.std.proofs.lemmas.{Bool.cases_eq, Bool.or_parts, Bool.or_from, Bool.not_from_true, List.get_or-set_other, List.get_or-set_same, List.length-set}
 use Rattle.std.specs.Int.{w64, trailing_zeros}
-use Rattle.region_config.specs.declared.region_spec.RegionSpec.{RegionSpec}
-use Rattle.region_config.specs.Blocks.{with_block}
-use Rattle.region_config.specs.Configurations.{Configuration}
+use Rattle.region_config.{proofs.Faultless.faultless, proofs.Faultless.no_fault_in, specs.Blocks.with_block, specs.Configurations.Configuration}
 use Rattle.region_config.specs.Granules.{first_granule, region_granules, is_supported, no_region, region_spec, sizes_in}
-use Rattle.region_config.specs.Setups.{bad_base, bad_length, bad_order, bad_sizes, config_fault, largest_size}
-use Rattle.region_config.proofs.Faultless.{faultless, no_fault_in}
+use Rattle.region_config.specs.{Setups.bad_base, Setups.bad_length, Setups.bad_order, Setups.bad_sizes, Setups.config_fault, Setups.largest_size, declared.region_spec.RegionSpec.RegionSpec}
 
 -- the tests of a region alone, at another block
 sizes_pass : (spec : RegionSpec) (size : ℕ) → bad_sizes spec ≡ false → is_supported spec size ≡ true → bad_sizes (record spec { block = size }) ≡ false

@@ -1,20 +1,15 @@
 -- What the absence of each fault means, and that it makes a configuration sound.
 use Rattle.std.proofs.Common.{◌≡◌, ℕ, zero, suc, ◌+◌, ◌-◌, ◌*◌, ◌/◌, ◌%◌, ◌^◌, ◌<◌, ◌≤◌, Bool, true, false, not, eqb, ltb, leb, length, Some, None, refl, ap, subst, sym, ◌∙◌, inl, inr, arith, div-add-mod'}
-use Rattle.std.proofs.lemmas.Bool.{or_parts, not-false, eqb-true, eqb-false, ltb-false, leb-false, cases_eq, cases_lt}
-use Rattle.std.proofs.lemmas.Nat.{pow-add, leading_top}
+use Rattle.std.proofs.Math.{Nat.zero-mod, Nat.zero-mul, Nat.mul-mod_left, Nat.pow-suc, Pow.mod-mod-pow, Pow.pow_mono}
+use Rattle.std.proofs.lemmas.{Bool.or_parts, Bool.not-false, Bool.eqb-true, Bool.eqb-false, Bool.ltb-false, Bool.leb-false, Bool.cases_eq, Bool.cases_lt, Nat.pow-add, Nat.leading_top}
 use Rattle.std.proofs.lemmas.Nat.Bits.{bit_at-zero, bit_at_above, bit_at_cat_low, bit_at-trailing_zeros}
-use Rattle.std.proofs.Math.Nat.{zero-mod, zero-mul, mul-mod_left, pow-suc}
-use Rattle.std.proofs.Math.Pow.{mod-mod-pow, pow_mono}
 use Rattle.std.specs.Int.{w64, trailing_zeros, bit_at}
 use Rattle.dcd_base.specs.Words.{◌or◌}
-use Rattle.region_config.specs.declared.faults.ConfigFault.{ConfigFault}
-use Rattle.region_config.specs.declared.region_spec.RegionSpec.{RegionSpec}
+use Rattle.region_config.proofs.{Powers.largest_is, Powers.supported, Powers.top_bit, Searches.fails, Searches.no_fault, Searches.none_at, Searches.none_from, Searches.or_parts as neither}
 use Rattle.region_config.specs.Configurations.{Configuration}
 use Rattle.region_config.specs.Granules.{base_of, first_granule, granule_size, granule_total, region_granules, is_supported, region_spec}
+use Rattle.region_config.specs.{Soundness.IsSound, Soundness.IsSoundRegion, Soundness.IsSoundSeat, declared.faults.ConfigFault.ConfigFault, declared.region_spec.RegionSpec.RegionSpec}
 use Rattle.region_config.specs.Setups.{bad_base, bad_count, bad_length, bad_order, bad_sizes, base_fault, config_fault, count_fault, decode_end, each_region, each_seat, faults, largest_size, length_fault, order_fault, sizes_fault, total_fault, unit}
-use Rattle.region_config.specs.Soundness.{IsSound, IsSoundRegion, IsSoundSeat}
-use Rattle.region_config.proofs.Powers.{largest_is, supported, top_bit}
-use Rattle.region_config.proofs.Searches.{fails, no_fault, none_at, none_from, or_parts as neither}
 
 -- a configuration in which no test finds a fault
 pub record Faultless (c : Configuration) : Type 0 where

@@ -1,11 +1,7 @@
 -- The region of a granule is the one whose granules have its number among them.
 use Rattle.std.proofs.Common.{◌≡◌, ℕ, zero, suc, ◌+◌, ◌<◌, ◌≤◌, Bool, true, false, length, Some, refl, ap, subst, sym, inl, inr, arith}
-use Rattle.std.specs.Prelude.{unwrap_or, nat_lt}
-use Rattle.std.specs.List.{find, range_with_len}
-use Rattle.std.proofs.lemmas.Bool.{cases_lt, lt-ltb, le-ltb}
-use Rattle.region_config.specs.Configurations.{Configuration}
-use Rattle.region_config.specs.Granules.{first_granule, granule_total, region_of}
-use Rattle.region_config.proofs.Faultless.{granules_rise}
+use Rattle.std.{specs.Prelude.unwrap_or, specs.Prelude.nat_lt, specs.List.find, specs.List.range_with_len, proofs.lemmas.Bool.cases_lt, proofs.lemmas.Bool.lt-ltb, proofs.lemmas.Bool.le-ltb}
+use Rattle.region_config.{specs.Configurations.Configuration, specs.Granules.first_granule, specs.Granules.granule_total, specs.Granules.region_of, proofs.Faultless.granules_rise}
 
 -- the first of a range that passes
 pub find_range : (p : ℕ → Bool) (a n r : ℕ) → a ≤ r → r < a + n → p r ≡ true → ((k : ℕ) → a ≤ k → k < r → p k ≡ false) → find p (range_with_len a n) ≡ Some r

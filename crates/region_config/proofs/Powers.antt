@@ -1,15 +1,10 @@
 -- The supported sizes are the set bits of the mask; the largest is the highest of them.
 use Rattle.std.proofs.Common.{◌≡◌, ℕ, zero, suc, ◌+◌, ◌-◌, ◌*◌, ◌/◌, ◌^◌, ◌<◌, ◌≤◌, max, Bool, true, false, not, ◌&&◌, eqb, List, [], map, fold, Decides, refl, ap, subst, sym, ◌∙◌, inl, inr, bit_and, count_ones, arith}
 use Rattle.std.proofs.lemmas.Bool.{and_parts, and_from, not-true, not_from_false, cases_eq, cases_Bool, eq-eqb, eqb-true, or_right, or_cases, ne_eqb, eqb-false, false≢true}
-use Rattle.std.proofs.lemmas.Nat.{pow_pos, pow_below, leading_top, ones_cat, zero_from_ones}
-use Rattle.std.proofs.lemmas.Nat.Bits.{bit_at-lt, bit_at_above, and_pow}
-use Rattle.std.proofs.Math.Nat.{pow-suc, zero-mul, div-eq_of_lt-le}
-use Rattle.std.specs.Int.{bit_at, is_power_of_two}
-use Rattle.std.specs.Int.Count.{ones-ones}
+use Rattle.std.proofs.{Math.Nat.pow-suc, Math.Nat.zero-mul, Math.Nat.div-eq_of_lt-le, lemmas.Nat.pow_pos, lemmas.Nat.pow_below, lemmas.Nat.leading_top, lemmas.Nat.ones_cat, lemmas.Nat.zero_from_ones}
+use Rattle.std.{proofs.lemmas.Nat.Bits.bit_at-lt, proofs.lemmas.Nat.Bits.bit_at_above, proofs.lemmas.Nat.Bits.and_pow, specs.Int.bit_at, specs.Int.is_power_of_two, specs.Int.Count.ones-ones}
 use Rattle.std.specs.List.{filter, list_any, range_with_len}
-use Rattle.region_config.specs.declared.region_spec.RegionSpec.{RegionSpec}
-use Rattle.region_config.specs.Granules.{sizes_in, is_supported}
-use Rattle.region_config.specs.Setups.{largest_size}
+use Rattle.region_config.specs.{declared.region_spec.RegionSpec.RegionSpec, Granules.sizes_in, Granules.is_supported, Setups.largest_size}
 
 -- the powers of two from 2 ^ a on, n of them, whose exponent passes
 abbrev powers : (ℕ → Bool) → ℕ → ℕ → List ℕ

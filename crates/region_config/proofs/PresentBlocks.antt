@@ -1,15 +1,10 @@
 -- The configuration with the present blocks differs in the blocks alone.
 use Rattle.std.proofs.Common.{◌≡◌, ◌≢◌, ℕ, zero, suc, ◌+◌, ◌/◌, ◌<◌, ◌≤◌, List, [], ◌∷◌, length, get_or, set, refl, sym, ap, ◌∙◌, subst, arith, add-zero, inl, inr}
+use Rattle.std.proofs.lemmas.{Bool.cases_eq, Bool.cases_lt, Bool.eq-eqb, Bool.ne_eqb, List.ext_get_or, List.get_or-set_other, List.get_or-set_same, List.length-map, List.length-set}
+use Rattle.std.{proofs.lemmas.List.FromFn.length-enumerate_from, specs.Int.w64, specs.Int.trailing_zeros, specs.List.enumerate_from}
 use Rattle.std.specs.Prelude.{map, ◌^◌, ◌==◌, if◌then◌else◌}
-use Rattle.std.proofs.lemmas.Bool.{cases_eq, cases_lt, eq-eqb, ne_eqb}
-use Rattle.std.proofs.lemmas.List.{ext_get_or, get_or-set_other, get_or-set_same, length-map, length-set}
-use Rattle.std.proofs.lemmas.List.FromFn.{length-enumerate_from}
-use Rattle.std.specs.Int.{w64, trailing_zeros}
-use Rattle.std.specs.List.{enumerate_from}
-use Rattle.region_config.specs.Blocks.{with_block}
-use Rattle.region_config.specs.Configurations.{Configuration}
+use Rattle.region_config.specs.{Blocks.with_block, Configurations.Configuration, Granules.no_region, Granules.region_spec, Granules.region_granules, Granules.first_granule, Granules.with_blocks}
 use Rattle.region_config.specs.declared.region_spec.RegionSpec.{RegionSpec}
-use Rattle.region_config.specs.Granules.{no_region, region_spec, region_granules, first_granule, with_blocks}
 
 abbrev at_block : (ℕ → ℕ) → ℕ × RegionSpec → RegionSpec
 at_block b spec = record spec.1 { block = b spec.0 }

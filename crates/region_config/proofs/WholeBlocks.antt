@@ -1,16 +1,10 @@
 -- A region without fault is made of whole blocks.
 use Rattle.std.proofs.Common.{◌≡◌, ℕ, zero, suc, ◌+◌, ◌-◌, ◌*◌, ◌/◌, ◌%◌, ◌^◌, ◌<◌, ◌≤◌, length, None, sym, ap, ◌∙◌, arith, inl, inr, div-add-mod'}
-use Rattle.std.specs.Int.{trailing_zeros, w64}
-use Rattle.std.proofs.lemmas.Bool.{cases_lt}
-use Rattle.std.proofs.lemmas.Nat.{leading_top, pow-add, pow_pos}
-use Rattle.std.proofs.lemmas.Nat.Bits.{bit_at_above}
-use Rattle.std.proofs.Math.Nat.{mul-div_cancel, mul_assoc, pow-suc, zero-mul}
-use Rattle.region_config.specs.Configurations.{Configuration}
-use Rattle.region_config.specs.Granules.{granule_size, region_granules, region_spec}
-use Rattle.region_config.specs.Setups.{config_fault, largest_size}
+use Rattle.std.proofs.{Math.Nat.mul-div_cancel, Math.Nat.mul_assoc, Math.Nat.pow-suc, Math.Nat.zero-mul, lemmas.Bool.cases_lt, lemmas.Nat.leading_top, lemmas.Nat.pow-add, lemmas.Nat.pow_pos}
+use Rattle.std.{proofs.lemmas.Nat.Bits.bit_at_above, specs.Int.trailing_zeros, specs.Int.w64}
+use Rattle.region_config.proofs.{Faultless.faultless, Faultless.good_length, Faultless.good_sizes, Faultless.lowest, Powers.largest_is, Powers.supported}
+use Rattle.region_config.specs.{Configurations.Configuration, Granules.granule_size, Granules.region_granules, Granules.region_spec, Setups.config_fault, Setups.largest_size}
 use Rattle.region_config.specs.declared.region_spec.RegionSpec.{RegionSpec}
-use Rattle.region_config.proofs.Faultless.{faultless, good_length, good_sizes, lowest}
-use Rattle.region_config.proofs.Powers.{largest_is, supported}
 
 -- how many granules a block has, and how many blocks the region
 pub record IsWhole (c : Configuration) (r : ℕ) : Type 0 where

@@ -2,11 +2,8 @@
 use Rattle.dcd_base.specs.Words.{flag_of, ◌or◌}
 use Rattle.std.specs.declared.result.Result.{Result}
 use Rattle.std.specs.Prelude.{◌≡◌, ℕ, Bool, not, ◌==◌, MatchResult, None, Option, Some, slice_set}
-use Rattle.region_config.specs.Configurations.{Configuration}
-use Rattle.region_config.specs.declared.faults.BlockFault.{BlockFault}
+use Rattle.region_config.specs.{Configurations.Configuration, Granules.is_supported, Granules.region_spec, Setups.faults, declared.faults.BlockFault.BlockFault}
 use Rattle.region_config.specs.declared.region_spec.RegionSpec.{RegionSpec}
-use Rattle.region_config.specs.Granules.{is_supported, region_spec}
-use Rattle.region_config.specs.Setups.{faults}
 
 -- why a block size is refused
 abbrev pub block_fault : RegionSpec → ℕ → Bool → ℕ → Option BlockFault

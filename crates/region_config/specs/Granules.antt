@@ -1,10 +1,8 @@
 -- The regions of a configuration, their block sizes, and how granules are numbered.
 use Rattle.std.specs.Prelude.{suc, zero, ℕ, ◌+◌, ◌*◌, ◌/◌, ◌%◌, ◌^◌, Bool, ◌==◌, nat_lt, List, length, map, slice_index, slice_index_or, unwrap_or, filter}
-use Rattle.std.specs.Int.{w64, trailing_zeros}
-use Rattle.std.specs.List.{find, filter, list_any, range_with_len, enumerate_from}
+use Rattle.std.specs.{Int.w64, Int.trailing_zeros, List.find, List.filter, List.list_any, List.range_with_len, List.enumerate_from}
 use Rattle.dcd_base.specs.declared.ids.HostId.{HostId}
-use Rattle.region_config.specs.Configurations.{Configuration}
-use Rattle.region_config.specs.declared.region_spec.RegionSpec.{RegionSpec}
+use Rattle.region_config.specs.{Configurations.Configuration, declared.region_spec.RegionSpec.RegionSpec}
 
 -- a region past the last has no length
 abbrev pub no_region : RegionSpec

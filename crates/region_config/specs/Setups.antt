@@ -1,10 +1,8 @@
 -- Which configurations are refused, and why.
 use Rattle.dcd_base.specs.Words.{◌or◌}
 use Rattle.std.specs.Prelude.{◌≡◌, ◌≢◌, Result, Ok, Err, ℕ, zero, suc, ◌+◌, ◌*◌, ◌%◌, ◌^◌, max, Bool, false, ◌||◌, not, ◌==◌, nat_le, nat_lt, length, fold, Option, Some, None, if◌then◌else◌}
-use Rattle.region_config.specs.declared.region_spec.RegionSpec.{RegionSpec}
-use Rattle.region_config.specs.Configurations.{Configuration}
-use Rattle.region_config.specs.declared.faults.ConfigFault.{ConfigFault}
-use Rattle.region_config.specs.Granules.{region_spec, base_of, sizes_in, is_supported, granule_total}
+use Rattle.region_config.specs.{Configurations.Configuration, Granules.region_spec, Granules.base_of, Granules.sizes_in, Granules.is_supported, Granules.granule_total}
+use Rattle.region_config.specs.declared.{faults.ConfigFault.ConfigFault, region_spec.RegionSpec.RegionSpec}
 
 -- this fault, where the test says so
 abbrev pub faults : {F : Type 0} → Bool → F → Option F

@@ -1,7 +1,6 @@
 -- What holds of every configuration without fault.
 use Rattle.std.specs.Prelude.{◌≡◌, ℕ, suc, ◌*◌, ◌%◌, ◌^◌, ◌<◌, ◌≤◌, IsTrue, length}
-use Rattle.region_config.specs.Configurations.{Configuration}
-use Rattle.region_config.specs.Granules.{base_of, granule_size, granule_total, is_supported, region_spec}
+use Rattle.region_config.specs.{Configurations.Configuration, Granules.base_of, Granules.granule_size, Granules.granule_total, Granules.is_supported, Granules.region_spec}
 use Rattle.region_config.specs.Setups.{decode_end, unit}
 
 -- A region is so long and has such granules and blocks:

@@ -1,22 +1,12 @@
 -- Extents that break no rule can leave.
 use Rattle.std.proofs.Common.{◌≡◌, ℕ, ◌+◌, ◌<◌, ◌≤◌, Bool, true, not, ltb, leb, List, [], ◌∷◌, length, Option, Some, None, option_map, refl, inl, inr, arith, lt-ltb}
-use Rattle.std.specs.Prelude.{◌==◌, position}
-use Rattle.std.specs.List.{list_all, position_or_len}
 use Rattle.std.proofs.lemmas.Bool.{and_parts, cases_Bool, cases_lt, leb-true, ltb-true, eqb-false, not-false}
-use Rattle.extent_list.specs.dcd_codes.specs.dcd_base.specs.declared.capacity.Extent.{Extent}
-use Rattle.extent_list.specs.dcd_codes.specs.dcd_base.specs.declared.ids.HostId.{HostId}
-use Rattle.extent_list.specs.dcd_codes.specs.declared.rules.Rule.{Rule}
-use Rattle.extent_list.specs.dcd_codes.specs.Rules.{◌breaks◌, each_in}
-use Rattle.extent_list.specs.ExtentLists.{is_in, overlaps}
-use Rattle.extent_list.specs.Listing.{is_aligned, lies_in_region, misplaced, not_whole, overlapping}
-use Rattle.extent_list.specs.media_map.specs.region_config.proofs.Faultless.{region_ends}
-use Rattle.extent_list.specs.media_map.specs.region_config.specs.Configurations.{Configuration}
-use Rattle.extent_list.specs.media_map.specs.region_config.specs.Granules.{base_of, region_spec}
-use Rattle.extent_list.specs.media_map.specs.region_config.specs.Soundness.{IsSound}
-use Rattle.release_core.specs.Leaving.{AllCanLeave, CanLeave, leaving_rule}
-use Rattle.extent_list.specs.Listed.{region_for}
-use Rattle.extent_list.specs.declared.listed.Within.{Within}
-use Rattle.release_core.proofs.Members.{each_in_at, neither, passes}
+use Rattle.std.specs.{List.list_all, List.position_or_len, Prelude.◌==◌, Prelude.position}
+use Rattle.extent_list.specs.{ExtentLists.is_in, ExtentLists.overlaps, Listed.region_for, Listing.is_aligned, Listing.lies_in_region, Listing.misplaced, Listing.not_whole, Listing.overlapping}
+use Rattle.extent_list.specs.dcd_codes.specs.{Rules.◌breaks◌, Rules.each_in, dcd_base.specs.declared.capacity.Extent.Extent, dcd_base.specs.declared.ids.HostId.HostId, declared.rules.Rule.Rule}
+use Rattle.extent_list.specs.{declared.listed.Within.Within, media_map.specs.region_config.proofs.Faultless.region_ends, media_map.specs.region_config.specs.Configurations.Configuration}
+use Rattle.extent_list.specs.media_map.specs.region_config.specs.{Granules.base_of, Granules.region_spec, Soundness.IsSound}
+use Rattle.release_core.{specs.Leaving.AllCanLeave, specs.Leaving.CanLeave, specs.Leaving.leaving_rule, proofs.Members.each_in_at, proofs.Members.neither, proofs.Members.passes}
 
 -- no earlier extent shares an address with x
 none_found : (p : Extent → Bool) (ys : List Extent) → position p ys ≡ None → length ys ≤ position_or_len p ys

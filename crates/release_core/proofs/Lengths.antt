@@ -1,8 +1,7 @@
 -- How long a list can be after cuts.
 use Rattle.std.proofs.Common.{◌≡◌, ℕ, ◌+◌, ◌≤◌, List, [], ◌∷◌, length, get_or, refl, inl, inr, arith, length-append, lt-ltb, le-ltb}
 use Rattle.std.proofs.lemmas.Bool.{cases_Bool, cases_lt}
-use Rattle.extent_list.specs.dcd_codes.specs.dcd_base.specs.declared.capacity.Extent.{Extent}
-use Rattle.extent_list.specs.ExtentLists.{cut, cut_all, has_range, piece}
+use Rattle.extent_list.specs.{dcd_codes.specs.dcd_base.specs.declared.capacity.Extent.Extent, ExtentLists.cut, ExtentLists.cut_all, ExtentLists.has_range, ExtentLists.piece}
 
 length_piece : (x : Extent) (from to : ℕ) → length (piece x from to) ≤ 1
 length_piece x from to = elim (cases_lt from to) [

@@ -1,9 +1,6 @@
 -- What it says of each member of a list that none breaks a rule.
 use Rattle.std.proofs.Common.{◌≡◌, ℕ, zero, suc, ◌<◌, Bool, true, false, List, [], ◌∷◌, ◌++◌, length, take, get_or, Option, Some, None, refl, sym, ap, ◌∙◌, append-nil, append_assoc, arith}
-use Rattle.extent_list.specs.dcd_codes.specs.dcd_base.specs.declared.capacity.Extent.{Extent}
-use Rattle.extent_list.specs.dcd_codes.specs.dcd_base.specs.Words.{◌or◌}
-use Rattle.extent_list.specs.dcd_codes.specs.declared.rules.Rule.{Rule}
-use Rattle.extent_list.specs.dcd_codes.specs.Rules.{◌breaks◌, each_in, first_by}
+use Rattle.extent_list.specs.dcd_codes.specs.{dcd_base.specs.declared.capacity.Extent.Extent, dcd_base.specs.Words.◌or◌, declared.rules.Rule.Rule, Rules.◌breaks◌, Rules.each_in, Rules.first_by}
 
 -- what an index past the end reads
 abbrev pub no_extent : Extent

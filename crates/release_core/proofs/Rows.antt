@@ -1,18 +1,10 @@
 -- Rows of which the first rules are not broken.
 use Rattle.std.proofs.Common.{◌≡◌, ◌≤◌, ℕ, Bool, false, List, length, Some, None, refl}
-use Rattle.std.specs.Prelude.{nat_le}
-use Rattle.std.proofs.lemmas.Bool.{le-ltb}
-use Rattle.extent_list.specs.dcd_codes.specs.dcd_base.specs.declared.capacity.Extent.{Extent}
-use Rattle.extent_list.specs.dcd_codes.specs.dcd_base.specs.declared.ids.HostId.{HostId}
-use Rattle.extent_list.specs.dcd_codes.specs.dcd_base.specs.Words.{is_empty}
-use Rattle.extent_list.specs.dcd_codes.specs.declared.rules.Rule.{Rule}
-use Rattle.extent_list.specs.dcd_codes.specs.Rules.{each_in}
-use Rattle.extent_list.specs.Listing.{incomplete, too_many_extents, too_many_listed}
-use Rattle.extent_list.specs.media_map.specs.region_config.specs.Configurations.{Configuration}
-use Rattle.extent_list.specs.declared.listed.Within.{Within}
-use Rattle.release_core.specs.Leaving.{count_after, leaving_rule}
-use Rattle.release_core.specs.Releases.{give_back_rule}
-use Rattle.release_core.specs.Removals.{prescribed_removal_rule}
+use Rattle.std.{specs.Prelude.nat_le, proofs.lemmas.Bool.le-ltb}
+use Rattle.extent_list.specs.{Listing.incomplete, Listing.too_many_extents, Listing.too_many_listed, dcd_codes.specs.Rules.each_in, dcd_codes.specs.dcd_base.specs.Words.is_empty}
+use Rattle.extent_list.specs.dcd_codes.specs.{dcd_base.specs.declared.capacity.Extent.Extent, dcd_base.specs.declared.ids.HostId.HostId, declared.rules.Rule.Rule}
+use Rattle.extent_list.specs.{declared.listed.Within.Within, media_map.specs.region_config.specs.Configurations.Configuration}
+use Rattle.release_core.specs.{Leaving.count_after, Leaving.leaving_rule, Releases.give_back_rule, Removals.prescribed_removal_rule}
 
 -- a list that is not too long
 pub few_listed : (list : List Extent) → length list ≤ 64 → too_many_listed list ≡ None

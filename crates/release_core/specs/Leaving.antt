@@ -1,16 +1,10 @@
 -- The rules of the extents of a list that are to leave their host. The configuration is the one with the present blocks.
 use Rattle.std.specs.Prelude.{◌≡◌, ℕ, ◌+◌, ◌^◌, ◌<◌, IsTrue, not, List, length, map, take, slice_index_or, Option}
 use Rattle.std.specs.List.{list_all}
-use Rattle.extent_list.specs.dcd_codes.specs.dcd_base.specs.declared.capacity.Extent.{Extent}
-use Rattle.extent_list.specs.dcd_codes.specs.dcd_base.specs.declared.ids.HostId.{HostId}
-use Rattle.extent_list.specs.dcd_codes.specs.dcd_base.specs.Words.{◌or◌}
-use Rattle.extent_list.specs.dcd_codes.specs.declared.rules.Rule.{Rule}
-use Rattle.extent_list.specs.dcd_codes.specs.Rules.{◌breaks◌, each_in}
-use Rattle.extent_list.specs.ExtentLists.{cut_all, is_in, marked, overlaps}
-use Rattle.extent_list.specs.Listing.{incomplete, misplaced, not_whole, overlapping}
-use Rattle.extent_list.specs.Listed.{region_for}
-use Rattle.extent_list.specs.media_map.specs.region_config.specs.Configurations.{Configuration}
-use Rattle.extent_list.specs.declared.listed.Within.{Within}
+use Rattle.extent_list.specs.{ExtentLists.cut_all, ExtentLists.is_in, ExtentLists.marked, ExtentLists.overlaps, Listed.region_for}
+use Rattle.extent_list.specs.{Listing.incomplete, Listing.misplaced, Listing.not_whole, Listing.overlapping, dcd_codes.specs.Rules.◌breaks◌, dcd_codes.specs.Rules.each_in}
+use Rattle.extent_list.specs.dcd_codes.specs.{dcd_base.specs.Words.◌or◌, dcd_base.specs.declared.capacity.Extent.Extent, dcd_base.specs.declared.ids.HostId.HostId, declared.rules.Rule.Rule}
+use Rattle.extent_list.specs.{declared.listed.Within.Within, media_map.specs.region_config.specs.Configurations.Configuration}
 
 -- an extent that is to leave, beside those before it
 abbrev pub leaving_rule : Configuration → HostId → List Extent → Within → List Extent → Extent → Option Rule

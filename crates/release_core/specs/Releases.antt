@@ -1,19 +1,11 @@
 -- A Release Dynamic Capacity: its row, and what it does to the held list.
 use Rattle.std.specs.Prelude.{◌≡◌, ◌≢◌, ℕ, Bool, true, false, not, List, [], map, Option}
-use Rattle.std.specs.declared.result.Result.{Result}
-use Rattle.std.specs.declared.result.Result.TheVariants.{Ok, Err}
-use Rattle.extent_list.specs.dcd_codes.specs.dcd_base.specs.declared.capacity.Extent.{Extent}
-use Rattle.extent_list.specs.dcd_codes.specs.dcd_base.specs.declared.ids.HostId.{HostId}
-use Rattle.extent_list.specs.dcd_codes.specs.dcd_base.specs.Words.{◌or◌, where_true}
-use Rattle.extent_list.specs.dcd_codes.specs.declared.refusals.Refusal.{Refusal}
-use Rattle.extent_list.specs.dcd_codes.specs.declared.rules.Rule.{Rule}
-use Rattle.extent_list.specs.dcd_codes.specs.Rules.{ByRow}
-use Rattle.extent_list.specs.ExtentLists.{marked}
-use Rattle.extent_list.specs.Listing.{too_many_extents, too_many_listed}
+use Rattle.std.specs.declared.result.Result.{Result, TheVariants.Ok, TheVariants.Err}
+use Rattle.extent_list.specs.{ExtentLists.marked, Listing.too_many_extents, Listing.too_many_listed, dcd_codes.specs.Rules.ByRow}
+use Rattle.extent_list.specs.dcd_codes.specs.dcd_base.specs.{Words.◌or◌, Words.where_true, declared.capacity.Extent.Extent, declared.ids.HostId.HostId}
+use Rattle.extent_list.specs.{dcd_codes.specs.declared.refusals.Refusal.Refusal, dcd_codes.specs.declared.rules.Rule.Rule, declared.listed.Within.Within}
 use Rattle.extent_list.specs.media_map.specs.region_config.specs.Configurations.{Configuration}
-use Rattle.extent_list.specs.declared.listed.Within.{Within}
-use Rattle.release_core.specs.declared.releases.GivenBack.{GivenBack}
-use Rattle.release_core.specs.Leaving.{count_after, leaving_list_rule}
+use Rattle.release_core.specs.{declared.releases.GivenBack.GivenBack, Leaving.count_after, Leaving.leaving_list_rule}
 
 -- the row; the whole list is the held one and then the message's, and so many extents are offered
 abbrev pub give_back_rule : Configuration → HostId → List Extent → ℕ → List Extent → Bool → Option Rule

@@ -1,15 +1,9 @@
 -- An Initiate Dynamic Capacity Release: the rows of its two policies.
 use Rattle.std.specs.Prelude.{ℕ, Bool, not, nat_le, List, filter, length, Option}
-use Rattle.extent_list.specs.dcd_codes.specs.dcd_base.specs.declared.capacity.Extent.{Extent}
-use Rattle.extent_list.specs.dcd_codes.specs.dcd_base.specs.declared.capacity.Tag.{Tag}
-use Rattle.extent_list.specs.dcd_codes.specs.dcd_base.specs.declared.ids.HostId.{HostId}
-use Rattle.extent_list.specs.dcd_codes.specs.dcd_base.specs.Words.{◌or◌, is_empty, is_zero_tag, same_tag, where_true}
-use Rattle.extent_list.specs.dcd_codes.specs.declared.rules.Rule.{Rule}
-use Rattle.extent_list.specs.dcd_codes.specs.Rules.{◌breaks◌}
-use Rattle.extent_list.specs.ExtentLists.{has_extent_of}
-use Rattle.extent_list.specs.Listing.{too_many_extents, too_many_listed}
-use Rattle.extent_list.specs.media_map.specs.region_config.specs.Configurations.{Configuration}
-use Rattle.extent_list.specs.declared.listed.Within.{Within}
+use Rattle.extent_list.specs.{ExtentLists.has_extent_of, Listing.too_many_extents, Listing.too_many_listed, dcd_codes.specs.Rules.◌breaks◌}
+use Rattle.extent_list.specs.dcd_codes.specs.dcd_base.specs.{Words.◌or◌, Words.is_empty, Words.is_zero_tag, Words.same_tag, Words.where_true, declared.capacity.Extent.Extent}
+use Rattle.extent_list.specs.dcd_codes.specs.{dcd_base.specs.declared.capacity.Tag.Tag, dcd_base.specs.declared.ids.HostId.HostId, declared.rules.Rule.Rule}
+use Rattle.extent_list.specs.{declared.listed.Within.Within, media_map.specs.region_config.specs.Configurations.Configuration}
 use Rattle.release_core.specs.Leaving.{count_after, leaving_list_rule}
 
 -- by tag

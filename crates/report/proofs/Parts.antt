@@ -1,19 +1,13 @@
 -- How parts of a text make up the whole.
 use Rattle.std.proofs.Common.{◌/◌, ◌%◌, slice_index, ◌≡◌, Bool, if◌then◌else◌, ℕ, zero, suc, ◌+◌, ◌≤◌, ◌<◌, List, [], ◌∷◌, ◌++◌, Option, Some, None, sym, ap, ◌∙◌, arith, take, length, flat_map, subst, refl}
-use Rattle.std.specs.Prelude.{slice_get, IsFalse, OnErr, OnOk}
-use Rattle.std.specs.declared.result.Result.{Result}
+use Rattle.std.proofs.lemmas.{Grind.flat_map-append, List.append_assoc, List.append-nil, List.flat_map_more, List.take_more, Option.get_or_from_slice_get}
+use Rattle.std.specs.{List.enumerate_from, List.range_with_len, Prelude.slice_get, Prelude.IsFalse, Prelude.OnErr, Prelude.OnOk, declared.result.Result.Result}
 use Rattle.std.specs.declared.result.Result.TheVariants.{Ok, Err}
-use Rattle.std.specs.List.{enumerate_from, range_with_len}
-use Rattle.std.proofs.lemmas.List.{append_assoc, append-nil, flat_map_more, take_more}
-use Rattle.std.proofs.lemmas.Option.{get_or_from_slice_get}
-use Rattle.std.proofs.lemmas.Grind.{flat_map-append}
-use Rattle.dcd_base.specs.Layouts.{Field, Raw, spell, spelling}
-use Rattle.cci_codec.specs.declared.messages.Response.{Response}
-use Rattle.cci_codec.specs.Messages.{response_bytes, response_head_fields}
+use Rattle.dcd_base.proofs.Passing.{passes_start, passes_more, passes_then, risen_before}
+use Rattle.dcd_base.specs.{Layouts.Field, Layouts.Raw, Layouts.spell, Layouts.spelling, Streams.HasRisen, Streams.Passes}
+use Rattle.cci_codec.specs.{declared.messages.Response.Response, Messages.response_bytes, Messages.response_head_fields}
 use Rattle.journal_core.specs.declared.entries.Entry.{Entry}
 use Rattle.hex.specs.Hex.{encode_lower, encode_with, lower_digits}
-use Rattle.dcd_base.specs.Streams.{HasRisen, Passes}
-use Rattle.dcd_base.proofs.Passing.{passes_start, passes_more, passes_then, risen_before}
 use Rattle.report.specs.Printing.{with_bytes, Printed, Prints}
 
 -- nothing was put

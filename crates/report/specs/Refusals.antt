@@ -1,7 +1,6 @@
 -- What is printed where there is no journal.
 use Rattle.std.specs.Prelude.{ℕ, List, [], ◌∷◌, codes, decimal}
-use Rattle.script_codec.specs.FaultNumbers.{fault_number, fault_place}
-use Rattle.script_codec.specs.declared.faults.ScriptFault.{ScriptFault}
+use Rattle.script_codec.specs.{FaultNumbers.fault_number, FaultNumbers.fault_place, declared.faults.ScriptFault.ScriptFault}
 use Rattle.report.specs.Texts.{line_of}
 
 -- a script that is refused for the fault of this number at this place

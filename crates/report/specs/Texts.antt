@@ -1,23 +1,12 @@
 -- What is printed of a journal.
 use Rattle.std.specs.Prelude.{ℕ, List, [], ◌∷◌, ◌++◌, length, flat_map, codes, decimal}
-use Rattle.std.specs.List.{enumerate_from}
-use Rattle.std.specs.Int.{w64, to_be_bytes}
+use Rattle.std.specs.{List.enumerate_from, Int.w64, Int.to_be_bytes}
 use Rattle.hex.specs.Hex.{encode_lower}
-use Rattle.dcd_base.specs.declared.ids.HostId.{HostId}
-use Rattle.dcd_base.specs.declared.steps.Actor.{Actor}
-use Rattle.dcd_base.specs.declared.steps.LogId.{LogId}
-use Rattle.dcd_base.specs.declared.failures.AccessFault.{AccessFault}
-use Rattle.event_records.specs.declared.events.Event.{Event}
-use Rattle.event_records.specs.Records.{record_bytes}
+use Rattle.dcd_base.specs.declared.{ids.HostId.HostId, steps.Actor.Actor, steps.LogId.LogId, failures.AccessFault.AccessFault}
+use Rattle.event_records.specs.{declared.events.Event.Event, Records.record_bytes}
 use Rattle.cci_codec.specs.Messages.{response_bytes}
-use Rattle.region_config.specs.Configurations.{Configuration}
-use Rattle.region_config.specs.Granules.{hosts_of}
-use Rattle.journal_core.specs.declared.acts.Act.{Act}
-use Rattle.journal_core.specs.declared.acts.Reply.{Reply}
-use Rattle.journal_core.specs.declared.outcome.Effect.{Effect}
-use Rattle.journal_core.specs.declared.entries.Entry.{Entry}
-use Rattle.journal_core.specs.Entries.{effects}
-use Rattle.journal_core.specs.Seen.{kind_of}
+use Rattle.region_config.specs.{Configurations.Configuration, Granules.hosts_of}
+use Rattle.journal_core.specs.{Entries.effects, Seen.kind_of, declared.acts.Act.Act, declared.acts.Reply.Reply, declared.entries.Entry.Entry, declared.outcome.Effect.Effect}
 use Rattle.journal_core.specs.declared.seen.ActKind.{ActKind}
 use Rattle.control_core.specs.device_rules.specs.Counts.{dirty_count, extent_count, free_count, granules_held, missed_of, records_of}
 

@@ -122,7 +122,11 @@ fn write_entry<K: Sink>(printer: &mut Printer, sink: &mut K, number: u64, entry:
 
 /// Puts a line for each entry that is lent, numbered from 1, and answers how many there are. None is left then.
 #[tactic(auto, unfolding(crate::specs::Texts::entry_lines))]
-pub fn write_entries<K: Sink, J: Lender>(printer: &mut Printer, sink: &mut K, journal: &mut J) -> u64
+pub fn write_entries<K: Sink, J: Lender>(
+    printer: &mut Printer,
+    sink: &mut K,
+    journal: &mut J,
+) -> u64
     requires short { AreShort (J.rest journal.old) }
     requires few { length (J.rest journal.old) < 2 ^ 64 }
     ensures count { result ≡ length (J.rest journal.old) }

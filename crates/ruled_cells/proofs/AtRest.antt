@@ -4,16 +4,9 @@ use mathlib.Core.Option.{some}
 use lib.ListN.{get_elem?}
 use Rattle.atomic_table.proofs.Lists.{at_map}
 use Rattle.journal_core.specs.declared.entries.Entry.{Entry}
-use Rattle.ruled_cells.specs.declared.about.About.{About}
-use Rattle.ruled_cells.specs.declared.about.SeatView.{SeatView}
-use Rattle.ruled_cells.specs.declared.cell_value.CellValue.{CellValue}
-use Rattle.ruled_cells.specs.declared.cell_value.CellValue.TheVariants.{First, Rest}
-use Rattle.ruled_cells.specs.Stamps.{IsControlLog, stamps_after, pending}
-use Rattle.ruled_cells.specs.Ruling.{Names, Ruled}
-use Rattle.ruled_cells.specs.Booking.{Fits, Whole}
-use Rattle.ruled_cells.specs.Telling.{values}
-use Rattle.ruled_cells.specs.Resting.{IsAtRest, Accounts}
-use Rattle.ruled_cells.proofs.Places.{at_same}
+use Rattle.ruled_cells.{proofs.Places.at_same, specs.Booking.Fits, specs.Booking.Whole, specs.Resting.IsAtRest, specs.Resting.Accounts, specs.Ruling.Names, specs.Ruling.Ruled}
+use Rattle.ruled_cells.specs.{Stamps.IsControlLog, Stamps.stamps_after, Stamps.pending, Telling.values, declared.about.About.About, declared.about.SeatView.SeatView}
+use Rattle.ruled_cells.specs.declared.cell_value.CellValue.{CellValue, TheVariants.First, TheVariants.Rest}
 
 module _ {F S : Type 0} (w : Names F S) (about : About) (first : F) (row : List S) (words : List ℕ) (views : List SeatView) (h : Whole w about words (values first row) views) (free : get_or words 0 0 ≡ 0) where
   r : Ruled w about h.log words (values first row) views

@@ -7,16 +7,10 @@ use native.Mathlib.Decide.{ℕ_discrete}
 use lib.ListN.{get_elem?}
 use Rattle.dcd_base.specs.declared.steps.Stamp.{Stamp}
 use Rattle.journal_core.specs.declared.entries.Entry.{Entry}
-use Rattle.ruled_cells.specs.declared.about.SeatView.{SeatView}
-use Rattle.ruled_cells.specs.declared.cell_value.CellValue.{CellValue}
-use Rattle.ruled_cells.specs.Stamps.{Below}
-use Rattle.ruled_cells.specs.Ruling.{Names}
-use Rattle.ruled_cells.specs.Booking.{own, weight_one, total, Fits, IsRisingTo, IsKept, IsBooked, Books}
-use Rattle.ruled_cells.specs.Telling.{next_view, joint_view, spent_view}
-use Rattle.ruled_cells.proofs.Places.{at_below, at_push}
-use Rattle.ruled_cells.proofs.Order.{below_trans, rise_push, never}
+use Rattle.ruled_cells.proofs.{Order.below_trans, Order.rise_push, Order.never, Places.at_below, Places.at_push, RuleSteps.each_set}
 use Rattle.ruled_cells.proofs.Weights.{weigh-push, weigh-one, own-same, own-other, Keeps, Gains}
-use Rattle.ruled_cells.proofs.RuleSteps.{each_set}
+use Rattle.ruled_cells.specs.{Booking.own, Booking.weight_one, Booking.total, Booking.Fits, Booking.IsRisingTo, Booking.IsKept, Booking.IsBooked, Booking.Books, Ruling.Names, Stamps.Below}
+use Rattle.ruled_cells.specs.{Telling.next_view, Telling.joint_view, Telling.spent_view, declared.about.SeatView.SeatView, declared.cell_value.CellValue.CellValue}
 
 -- what stands in two lists put together stands in one of them
 append_at : {A : Type 0} (P : A → Type 0) (l m : List A) → ((k : ℕ) (a : A) → get_elem? l k ≡ some a → P a) → ((k : ℕ) (a : A) → get_elem? m k ≡ some a → P a) → (k : ℕ) (a : A) → get_elem? (l ++ m) k ≡ some a → P a

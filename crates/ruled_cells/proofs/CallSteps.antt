@@ -2,18 +2,11 @@
 use Rattle.std.proofs.Common.{◌≡◌, ℕ, zero, suc, ◌+◌, false, List, length, sym, ◌∙◌, subst, arith, Option}
 use Rattle.dcd_base.specs.declared.steps.Actor.{Actor}
 use Rattle.journal_core.specs.declared.entries.Entry.{Entry}
-use Rattle.ruled_cells.specs.declared.about.About.{About}
-use Rattle.ruled_cells.specs.declared.about.SeatView.{SeatView}
-use Rattle.ruled_cells.specs.declared.cell_value.CellValue.{CellValue}
-use Rattle.ruled_cells.specs.declared.cell_value.CellValue.TheVariants.{First, Rest}
-use Rattle.ruled_cells.specs.Turning.{HasTurn, GivesTurn, Marks, Seated, IsTakenInTheEnd}
-use Rattle.ruled_cells.specs.Laws.{AccessEnters, ChangeIs, Stays, AccessKeeps, ChangeMakes}
-use Rattle.ruled_cells.specs.Reads.{ChiefReads, MemberReads}
-use Rattle.ruled_cells.specs.Ruling.{Names, names, access_cell}
-use Rattle.ruled_cells.specs.Booking.{Whole}
+use Rattle.ruled_cells.{proofs.RuleSteps.Laws, proofs.WholeSteps.gives_first, proofs.WholeSteps.gives_shard, proofs.WholeSteps.notes, specs.Booking.Whole}
+use Rattle.ruled_cells.specs.{Laws.AccessEnters, Laws.ChangeIs, Laws.Stays, Laws.AccessKeeps, Laws.ChangeMakes, Reads.ChiefReads, Reads.MemberReads, Ruling.Names, Ruling.names, Ruling.access_cell}
 use Rattle.ruled_cells.specs.Telling.{MayNote, MayGiveFirst, MayGive, noted_as, gave_first, gave_shard, took_first, ToldFirst}
-use Rattle.ruled_cells.proofs.RuleSteps.{Laws}
-use Rattle.ruled_cells.proofs.WholeSteps.{gives_first, gives_shard, notes}
+use Rattle.ruled_cells.specs.{Turning.HasTurn, Turning.GivesTurn, Turning.Marks, Turning.Seated, Turning.IsTakenInTheEnd, declared.about.About.About, declared.about.SeatView.SeatView}
+use Rattle.ruled_cells.specs.declared.cell_value.CellValue.{CellValue, TheVariants.First, TheVariants.Rest}
 
 module _ {F S : Type 0} (chief : ChiefReads F) (member : MemberReads S) where
   abbrev w : Names F S

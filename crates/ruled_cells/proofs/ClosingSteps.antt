@@ -7,22 +7,12 @@ use native.Mathlib.Decide.{ℕ_discrete, dec_lt}
 use lib.ListN.{get_elem?, length-map}
 use Rattle.atomic_table.proofs.Lists.{at_longer, at_last}
 use Rattle.journal_core.specs.declared.entries.Entry.{Entry}
-use Rattle.ruled_cells.specs.declared.about.About.{About}
-use Rattle.ruled_cells.specs.declared.about.SeatView.{SeatView}
-use Rattle.ruled_cells.specs.declared.cell_value.CellValue.{CellValue}
-use Rattle.ruled_cells.specs.declared.cell_value.CellValue.TheVariants.{First, Rest}
-use Rattle.ruled_cells.specs.declared.seat.Seat.{Seat}
-use Rattle.ruled_cells.specs.declared.cells.Cells.{Cells}
-use Rattle.ruled_cells.specs.Turning.{NoTurn, Seated, IsIn, Settled, joint}
-use Rattle.ruled_cells.specs.Ruling.{Names}
-use Rattle.ruled_cells.specs.Booking.{Fits, Whole}
-use Rattle.ruled_cells.specs.Telling.{joint_view, values}
-use Rattle.ruled_cells.specs.Resting.{IsAtRest, Accounts}
-use Rattle.ruled_cells.specs.Seats.{IsSameSeat, seat_number, seat_view}
-use Rattle.ruled_cells.specs.Calls.{IsOf, AreAll}
-use Rattle.ruled_cells.specs.Making.{IsGathered}
-use Rattle.ruled_cells.proofs.Places.{at_below, at_there, at_same, at_push, map_at, same_somes}
 use Rattle.ruled_cells.proofs.AtRest.{rests, accounts_own, accounts_kept, no_others}
+use Rattle.ruled_cells.proofs.Places.{at_below, at_there, at_same, at_push, map_at, same_somes}
+use Rattle.ruled_cells.specs.{Booking.Fits, Booking.Whole, Calls.IsOf, Calls.AreAll, Making.IsGathered, Resting.IsAtRest, Resting.Accounts, Ruling.Names}
+use Rattle.ruled_cells.specs.{Seats.IsSameSeat, Seats.seat_number, Seats.seat_view, Telling.joint_view, Telling.values, Turning.NoTurn, Turning.Seated, Turning.IsIn, Turning.Settled, Turning.joint}
+use Rattle.ruled_cells.specs.declared.{about.About.About, about.SeatView.SeatView, cell_value.CellValue.CellValue, cell_value.CellValue.TheVariants.First, cell_value.CellValue.TheVariants.Rest}
+use Rattle.ruled_cells.specs.declared.{cells.Cells.Cells, seat.Seat.Seat}
 
 abbrev tail_of : {A : Type 0} → List A → List A
 tail_of [] = []

@@ -6,15 +6,10 @@ use mathlib.Core.Option.{some}
 use native.Mathlib.Decide.{dec_lt}
 use lib.ListN.{get_elem?}
 use Rattle.journal_core.specs.declared.entries.Entry.{Entry}
-use Rattle.ruled_cells.specs.declared.about.SeatView.{SeatView}
-use Rattle.ruled_cells.specs.declared.cell_value.CellValue.{CellValue}
+use Rattle.ruled_cells.proofs.{Places.at_push, RuleSteps.each_set, Weights.from, Weights.below, Weights.own-same, Weights.total-add}
+use Rattle.ruled_cells.specs.{Booking.weigh, Booking.own, Booking.weight_one, Booking.weigh_all, Booking.entries_in, Booking.total, Booking.Books, Booking.Counted, Ruling.Names}
+use Rattle.ruled_cells.specs.{Telling.next_view, Telling.joint_view, Telling.spent_view, declared.about.SeatView.SeatView, declared.cell_value.CellValue.CellValue}
 use Rattle.ruled_cells.specs.declared.cell_value.CellValue.TheVariants.{Rest}
-use Rattle.ruled_cells.specs.Ruling.{Names}
-use Rattle.ruled_cells.specs.Booking.{weigh, own, weight_one, weigh_all, entries_in, total, Books, Counted}
-use Rattle.ruled_cells.specs.Telling.{next_view, joint_view, spent_view}
-use Rattle.ruled_cells.proofs.Places.{at_push}
-use Rattle.ruled_cells.proofs.Weights.{from, below, own-same, total-add}
-use Rattle.ruled_cells.proofs.RuleSteps.{each_set}
 
 split_at : (m : ℕ) (e : Entry) → weight_one e ≡ below m e + from m e
 split_at m e = grind (arith, nat_tests)

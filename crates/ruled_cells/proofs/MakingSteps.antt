@@ -6,19 +6,11 @@ use mathlib.Core.Option.{some, some-injective}
 use native.Mathlib.Decide.{ℕ_discrete}
 use lib.ListN.{get_elem?, length-map}
 use Rattle.atomic_table.proofs.Lists.{at_set, set_else, at_map, at_longer, at_last}
-use Rattle.ruled_cells.specs.declared.about.About.{About}
-use Rattle.ruled_cells.specs.declared.about.SeatView.{SeatView}
-use Rattle.ruled_cells.specs.declared.cell_value.CellValue.{CellValue}
-use Rattle.ruled_cells.specs.declared.cell_value.CellValue.TheVariants.{Rest}
+use Rattle.ruled_cells.{proofs.Places.at_below, proofs.Places.at_push, proofs.Places.map_at, proofs.Places.at_replicate, specs.Calls.IsNew, specs.Calls.seats_of}
+use Rattle.ruled_cells.specs.{Making.IsMaker, Making.IsFilling, Making.fills, Seats.place_of, Seats.seat_number, Telling.fresh_seat, Telling.next_view, Telling.values}
+use Rattle.ruled_cells.specs.{Turning.HasTurn, Turning.NoTurn, Turning.Seated, Turning.IsGiven, Turning.enrolled, Turning.newcomer, Turning.opener, declared.about.About.About}
+use Rattle.ruled_cells.specs.declared.{about.SeatView.SeatView, cell_value.CellValue.CellValue, cell_value.CellValue.TheVariants.Rest, cells.Cells.Cells, seat.Seat.Seat}
 use Rattle.ruled_cells.specs.declared.turns.seat_state.SeatState.{SeatState}
-use Rattle.ruled_cells.specs.Turning.{HasTurn, NoTurn, Seated, IsGiven, enrolled, newcomer, opener}
-use Rattle.ruled_cells.specs.Telling.{fresh_seat, next_view, values}
-use Rattle.ruled_cells.specs.Making.{IsMaker, IsFilling, fills}
-use Rattle.ruled_cells.specs.declared.seat.Seat.{Seat}
-use Rattle.ruled_cells.specs.declared.cells.Cells.{Cells}
-use Rattle.ruled_cells.specs.Seats.{place_of, seat_number}
-use Rattle.ruled_cells.specs.Calls.{IsNew, seats_of}
-use Rattle.ruled_cells.proofs.Places.{at_below, at_push, map_at, at_replicate}
 
 -- giving a turn back leaves no turn there, and the others as they were
 given_none : {A : Type 0} (taken : List (Option A)) (k : ℕ) → NoTurn (set taken k None) k

@@ -2,24 +2,12 @@
 use Rattle.std.proofs.Common.{◌≡◌, ◌≢◌, ℕ, zero, suc, ◌+◌, ◌<◌, ◌≤◌, false, List, [], ◌∷◌, map, length, get_or, sym, refl, ap, ◌∙◌, subst, arith, Option, None}
 use mathlib.Core.Option.{some, some-injective, some-ne-none}
 use lib.ListN.{get_elem?, length-map}
-use Rattle.dcd_base.specs.declared.steps.Stamp.{Stamp}
-use Rattle.dcd_base.specs.declared.steps.Actor.{Actor}
+use Rattle.dcd_base.specs.declared.steps.{Stamp.Stamp, Actor.Actor}
 use Rattle.journal_core.specs.declared.entries.Entry.{Entry}
-use Rattle.ruled_cells.specs.declared.about.About.{About}
-use Rattle.ruled_cells.specs.declared.about.SeatView.{SeatView}
-use Rattle.ruled_cells.specs.declared.cell_value.CellValue.{CellValue}
-use Rattle.ruled_cells.specs.declared.cell_value.CellValue.TheVariants.{First, Rest}
-use Rattle.ruled_cells.specs.Turning.{HasTurn, GivesTurn}
-use Rattle.ruled_cells.specs.Stamps.{stamp, pending}
-use Rattle.ruled_cells.specs.Ruling.{Names, IsShard}
-use Rattle.ruled_cells.specs.Booking.{weigh, own, weight_one, weigh_all, total, IsBooked, Whole}
-use Rattle.ruled_cells.specs.Telling.{fresh_seat, values, MayOpen}
-use Rattle.ruled_cells.specs.Making.{fills}
-use Rattle.ruled_cells.proofs.Places.{at_below, map_at}
-use Rattle.ruled_cells.proofs.Order.{never}
-use Rattle.ruled_cells.proofs.BookSteps.{rising_none}
-use Rattle.ruled_cells.proofs.RuleSteps.{Laws, same_pending}
-use Rattle.ruled_cells.proofs.WholeSteps.{gives_first, alike}
+use Rattle.ruled_cells.proofs.{BookSteps.rising_none, Order.never, Places.at_below, Places.map_at, RuleSteps.Laws, RuleSteps.same_pending, WholeSteps.gives_first, WholeSteps.alike}
+use Rattle.ruled_cells.specs.{Booking.weigh, Booking.own, Booking.weight_one, Booking.weigh_all, Booking.total, Booking.IsBooked, Booking.Whole, Making.fills, Ruling.Names, Ruling.IsShard}
+use Rattle.ruled_cells.specs.{Stamps.stamp, Stamps.pending, Telling.fresh_seat, Telling.values, Telling.MayOpen, Turning.HasTurn, Turning.GivesTurn, declared.about.About.About}
+use Rattle.ruled_cells.specs.declared.{about.SeatView.SeatView, cell_value.CellValue.CellValue, cell_value.CellValue.TheVariants.First, cell_value.CellValue.TheVariants.Rest}
 
 -- a list of one
 single : {A : Type 0} (P : ℕ → A → Type 0) (a : A) → P 0 a → (j : ℕ) (b : A) → get_elem? (a ∷ []) j ≡ some b → P j b

@@ -5,8 +5,7 @@ use native.Mathlib.Decide.{ℕ_discrete, dec_lt}
 use lib.ListN.{get_elem?}
 use Rattle.dcd_base.specs.declared.steps.Stamp.{Stamp}
 use Rattle.journal_core.specs.declared.entries.Entry.{Entry}
-use Rattle.ruled_cells.specs.Stamps.{Below, Rise, has_index, pending}
-use Rattle.ruled_cells.proofs.Places.{at_below, at_push}
+use Rattle.ruled_cells.{specs.Stamps.Below, specs.Stamps.Rise, specs.Stamps.has_index, specs.Stamps.pending, proofs.Places.at_below, proofs.Places.at_push}
 
 pub never : {A : Type 0} (b : Bool) → b ≡ true → b ≡ false → A
 never b t f = absurd (let e : true ≡ false = sym t ∙ f in (cc))

@@ -6,21 +6,14 @@ use mathlib.Core.Option.{some}
 use native.Mathlib.Decide.{ℕ_discrete}
 use lib.ListN.{get_elem?}
 use Rattle.atomic_table.proofs.Lists.{at_set, set_here, set_else, at_last}
-use Rattle.dcd_base.specs.declared.steps.Stamp.{Stamp}
-use Rattle.dcd_base.specs.declared.steps.Actor.{Actor}
-use Rattle.journal_core.specs.declared.entries.Entry.{Entry}
-use Rattle.journal_core.specs.Entries.{is_control}
-use Rattle.ruled_cells.specs.declared.about.About.{About}
-use Rattle.ruled_cells.specs.declared.about.SeatView.{SeatView}
-use Rattle.ruled_cells.specs.declared.cell_value.CellValue.{CellValue}
-use Rattle.ruled_cells.specs.declared.cell_value.CellValue.TheVariants.{First, Rest}
-use Rattle.ruled_cells.specs.Stamps.{stamp, Below, Rise, IsControlLog, stamps_after, pending}
-use Rattle.ruled_cells.specs.Laws.{EntersOne, AccessEnters, ChangeIs, Stays, AccessKeeps, ChangeMakes}
-use Rattle.ruled_cells.specs.Ruling.{Names, IsOwn, IsShard, Ruled}
-use Rattle.ruled_cells.specs.Telling.{next_view, begun, noted_view, changed_view, entered_view, joint_view, spent_view, MayNote, MayGiveFirst, Alike, MayEnter}
-use Rattle.ruled_cells.proofs.Places.{at_below, at_same, at_push}
-use Rattle.journal_core.proofs.Sorting.{two}
+use Rattle.dcd_base.specs.declared.steps.{Stamp.Stamp, Actor.Actor}
+use Rattle.journal_core.{specs.declared.entries.Entry.Entry, specs.Entries.is_control, proofs.Sorting.two}
 use Rattle.ruled_cells.proofs.Order.{never, below_trans, below_itself, below_after, rise_push, pending_more, pending_done, pending_new}
+use Rattle.ruled_cells.proofs.Places.{at_below, at_same, at_push}
+use Rattle.ruled_cells.specs.{Laws.EntersOne, Laws.AccessEnters, Laws.ChangeIs, Laws.Stays, Laws.AccessKeeps, Laws.ChangeMakes, Ruling.Names, Ruling.IsOwn, Ruling.IsShard, Ruling.Ruled}
+use Rattle.ruled_cells.specs.{Stamps.stamp, Stamps.Below, Stamps.Rise, Stamps.IsControlLog, Stamps.stamps_after, Stamps.pending, declared.about.About.About, declared.about.SeatView.SeatView}
+use Rattle.ruled_cells.specs.declared.cell_value.CellValue.{CellValue, TheVariants.First, TheVariants.Rest}
+use Rattle.ruled_cells.specs.Telling.{next_view, begun, noted_view, changed_view, entered_view, joint_view, spent_view, MayNote, MayGiveFirst, Alike, MayEnter}
 
 -- what holds of the item that is put in a list and of the others holds of each
 pub each_set : {A : Type 0} (P : ℕ → A → Type 0) (l : List A) (i : ℕ) (a : A) → P i a → ((j : ℕ) (b : A) → j ≢ i → get_elem? l j ≡ some b → P j b) → (j : ℕ) (b : A) → get_elem? (set l i a) j ≡ some b → P j b

@@ -9,10 +9,9 @@ use lib.Seq.{set-get_or}
 use prog.Atomic.{either}
 use Rattle.atomic_table.specs.Table.{State, Me, step, Act, keeps, takes, gives, Valid, stepped, carried_after, Allows}
 use Rattle.atomic_table.proofs.Lists.{set_here, set_else, set_again, at_map, exchanged}
+use Rattle.ruled_cells.proofs.{Places.at_below, Places.none_free, Places.some_some, Places.some_apart, Places.none_apart, TurnSteps.Moves, TurnSteps.look, TurnSteps.steps}
 use Rattle.ruled_cells.specs.declared.turns.seat_state.SeatState.{SeatState}
 use Rattle.ruled_cells.specs.Turning.{HasTurn, NoTurn, Knows, client, Tied, TakesTurn, GivesTurn, Marks, IsResting, IsMoving, took, missed, gave, still, moving_at, seat_told, Got, Missed, tried, laid_back, picked_up, given_back, marks_seat}
-use Rattle.ruled_cells.proofs.Places.{at_below, none_free, some_some, some_apart, none_apart}
-use Rattle.ruled_cells.proofs.TurnSteps.{Moves, look, steps}
 
 abbrev slot_of : {X : Type 0} → List (ℕ × Option X) → Option X
 slot_of [] = None

@@ -8,8 +8,8 @@ use mathlib.Core.List.{map-append}
 use native.Mathlib.Decide.{ℕ_discrete}
 use lib.ListN.{get_elem?, length-map, length-replicate, get_or-replicate}
 use lib.Seq.{map-set}
-use Rattle.atomic_table.specs.Table.{State, Splits, Joins, opening, Final, Seen}
 use Rattle.atomic_table.proofs.Lists.{at_set, set_here, set_else, set_again, at_map, at_longer}
+use Rattle.atomic_table.specs.Table.{State, Splits, Joins, opening, Final, Seen}
 use Rattle.ruled_cells.specs.declared.turns.seat_state.SeatState.{SeatState}
 use Rattle.ruled_cells.specs.Turning.{HasTurn, NoTurn, Has, IsIn, Knows, client, Tied, Admits, Merges, Settled, opener, enrolled, newcomer, joint, gone}
 use Rattle.ruled_cells.proofs.Places.{at_below, at_there, at_same, at_replicate, replicate_at, at_front, at_push, map_at, same_somes}

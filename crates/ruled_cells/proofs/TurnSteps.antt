@@ -6,11 +6,9 @@ use mathlib.Core.Option as maybe
 use native.Mathlib.Decide.{ℕ_discrete}
 use lib.ListN.{get_elem?}
 use lib.Seq.{map-set}
-use Rattle.atomic_table.specs.Table.{State}
-use Rattle.atomic_table.proofs.Lists.{at_set, set_here, set_else}
-use Rattle.ruled_cells.specs.declared.turns.seat_state.SeatState.{SeatState}
-use Rattle.ruled_cells.specs.Turning.{HasTurn, IsIn, Knows, client, Tied}
+use Rattle.atomic_table.{specs.Table.State, proofs.Lists.at_set, proofs.Lists.set_here, proofs.Lists.set_else}
 use Rattle.ruled_cells.proofs.Places.{at_below, at_same, some_some, some_none}
+use Rattle.ruled_cells.specs.{Turning.HasTurn, Turning.IsIn, Turning.Knows, Turning.client, Turning.Tied, declared.turns.seat_state.SeatState.SeatState}
 
 -- what a step may change
 pub record Look (X : Type 0) : Type 0 where

@@ -5,9 +5,8 @@ use mathlib.Core.Logic.{dite}
 use native.Mathlib.Decide.{ℕ_discrete}
 use lib.ListN.{length-replicate, get_or-replicate}
 use Rattle.atomic_table.specs.Table.{State, Me, Allows, Splits, Joins, carried_after, homes_after, opening, Final, Seen}
-use Rattle.ruled_cells.specs.declared.turns.seat_state.SeatState.{SeatState}
-use Rattle.ruled_cells.specs.Turning.{IsIn, NoTurn, IsApart, Tied, TiedApart, SettledBy, opener}
 use Rattle.ruled_cells.proofs.TurnSeats.{closes, first_words, opens_at}
+use Rattle.ruled_cells.specs.{Turning.IsIn, Turning.NoTurn, Turning.IsApart, Turning.Tied, Turning.TiedApart, Turning.SettledBy, Turning.opener, declared.turns.seat_state.SeatState.SeatState}
 
 -- the place of a word among those side by side
 pub in_row_at : (word k : ℕ) → word ≡ 8 * k → word / 8 ≡ k

@@ -3,9 +3,7 @@ use Rattle.std.proofs.Common.{◌≡◌, ◌≢◌, ℕ, zero, suc, ◌+◌, con
 use mathlib.Core.Option.{some, some-injective, some-ne-none}
 use lib.ListN.{get_elem?}
 use Rattle.journal_core.specs.declared.entries.Entry.{Entry}
-use Rattle.ruled_cells.specs.declared.cell_value.CellValue.{CellValue}
-use Rattle.ruled_cells.specs.Ruling.{Names}
-use Rattle.ruled_cells.specs.Booking.{weigh, own, weight_one, entries_in, weigh_all, total}
+use Rattle.ruled_cells.specs.{declared.cell_value.CellValue.CellValue, Ruling.Names, Booking.weigh, Booking.own, Booking.weight_one, Booking.entries_in, Booking.weigh_all, Booking.total}
 
 pub weigh-push : (h : Entry → ℕ) (es : List Entry) (e : Entry) → weigh h (es ++ e ∷ []) ≡ weigh h es + h e
 weigh-push h [] e = omega arith

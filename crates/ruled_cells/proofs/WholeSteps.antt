@@ -3,25 +3,16 @@ use Rattle.std.proofs.Common.{◌≡◌, ◌⊎◌, ℕ, ◌+◌, ◌<◌, ◌�
 use mathlib.Core.Option.{some}
 use lib.ListN.{get_elem?}
 use Rattle.atomic_table.proofs.Lists.{set_again, at_last}
-use Rattle.dcd_base.specs.declared.steps.Stamp.{Stamp}
-use Rattle.dcd_base.specs.declared.steps.Actor.{Actor}
-use Rattle.journal_core.specs.declared.entries.Entry.{Entry}
-use Rattle.ruled_cells.specs.declared.about.About.{About}
-use Rattle.ruled_cells.specs.declared.about.SeatView.{SeatView}
-use Rattle.ruled_cells.specs.declared.cell_value.CellValue.{CellValue}
-use Rattle.ruled_cells.specs.declared.cell_value.CellValue.TheVariants.{First, Rest}
-use Rattle.ruled_cells.specs.Turning.{HasTurn, TakesTurn, GivesTurn, Marks, Admits, Merges}
-use Rattle.ruled_cells.specs.Stamps.{stamp, Below, IsControlLog, stamps_after, pending}
-use Rattle.ruled_cells.specs.Ruling.{Names, Ruled}
-use Rattle.ruled_cells.specs.Booking.{weight_one, total, Whole}
-use Rattle.ruled_cells.specs.Telling.{next_view, begun, noted_view, changed_view, entered_view, joint_view, spent_view, took_first, took_shard, noted_as, MayNote, MayGiveFirst, gave_first, Alike, MayEnter, MayGive, gave_shard}
-use Rattle.ruled_cells.proofs.Places.{at_below, at_same}
-use Rattle.journal_core.proofs.Sorting.{two}
-use Rattle.ruled_cells.proofs.Order.{pending_some}
-use Rattle.ruled_cells.proofs.Weights.{keeps_same, keeps_put, gains_put, gains_noted}
-use Rattle.ruled_cells.proofs.RuleSteps.{Laws, first_same, took_first_rule, took_shard_rule, same_pending, gave_first_rule, gave_alike_rule, gave_access_rule, gave_change_rule, noted_count, noted_rule, admitted_rule, merged_rule}
+use Rattle.dcd_base.specs.declared.steps.{Stamp.Stamp, Actor.Actor}
+use Rattle.journal_core.{specs.declared.entries.Entry.Entry, proofs.Sorting.two}
 use Rattle.ruled_cells.proofs.BookSteps.{books_keep, books_gain, books_admit, books_merge}
-use Rattle.ruled_cells.proofs.CountSteps.{few_in_all, counted_views, counted_put, counted_admit, counted_merge}
+use Rattle.ruled_cells.proofs.{CountSteps.few_in_all, CountSteps.counted_views, CountSteps.counted_put, CountSteps.counted_admit, CountSteps.counted_merge, Order.pending_some}
+use Rattle.ruled_cells.proofs.{Places.at_below, Places.at_same, Weights.keeps_same, Weights.keeps_put, Weights.gains_put, Weights.gains_noted}
+use Rattle.ruled_cells.specs.{Booking.weight_one, Booking.total, Booking.Whole, Ruling.Names, Ruling.Ruled, Stamps.stamp, Stamps.Below, Stamps.IsControlLog, Stamps.stamps_after, Stamps.pending}
+use Rattle.ruled_cells.specs.{Turning.HasTurn, Turning.TakesTurn, Turning.GivesTurn, Turning.Marks, Turning.Admits, Turning.Merges, declared.about.About.About, declared.about.SeatView.SeatView}
+use Rattle.ruled_cells.specs.declared.cell_value.CellValue.{CellValue, TheVariants.First, TheVariants.Rest}
+use Rattle.ruled_cells.specs.Telling.{next_view, begun, noted_view, changed_view, entered_view, joint_view, spent_view, took_first, took_shard, noted_as, MayNote, MayGiveFirst, gave_first, Alike, MayEnter, MayGive, gave_shard}
+use Rattle.ruled_cells.proofs.RuleSteps.{Laws, first_same, took_first_rule, took_shard_rule, same_pending, gave_first_rule, gave_alike_rule, gave_access_rule, gave_change_rule, noted_count, noted_rule, admitted_rule, merged_rule}
 
 module _ {F S : Type 0} (w : Names F S) (about : About) where
   abbrev Holds : List ℕ → List (CellValue F S) → List SeatView → Type 0

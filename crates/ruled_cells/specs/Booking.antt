@@ -4,12 +4,8 @@ use mathlib.Core.Option.{some}
 use lib.ListN.{get_elem?}
 use Rattle.dcd_base.specs.declared.steps.Stamp.{Stamp}
 use Rattle.journal_core.specs.declared.entries.Entry.{Entry}
-use Rattle.ruled_cells.specs.declared.about.About.{About}
-use Rattle.ruled_cells.specs.declared.about.SeatView.{SeatView}
-use Rattle.ruled_cells.specs.declared.cell_value.CellValue.{CellValue}
+use Rattle.ruled_cells.specs.{Ruling.Names, Ruling.Ruled, Stamps.Below, Stamps.Rise, declared.about.About.About, declared.about.SeatView.SeatView, declared.cell_value.CellValue.CellValue}
 use Rattle.ruled_cells.specs.declared.cell_value.CellValue.TheVariants.{First, Rest}
-use Rattle.ruled_cells.specs.Stamps.{Below, Rise}
-use Rattle.ruled_cells.specs.Ruling.{Names, Ruled}
 
 -- the weights of the entries, added up
 abbrev pub weigh : (Entry → ℕ) → List Entry → ℕ

@@ -2,17 +2,11 @@
 use Rattle.std.specs.Prelude.{◌≡◌, ℕ, suc, ◌<◌, ◌≤◌, List, [], length}
 use mathlib.Core.Option.{some}
 use lib.ListN.{get_elem?}
-use Rattle.ruled_cells.specs.declared.about.About.{About}
-use Rattle.ruled_cells.specs.declared.seat.Seat.{Seat}
-use Rattle.ruled_cells.specs.declared.cells.Cells.{Cells}
-use Rattle.journal_core.specs.declared.entries.Entry.{Entry}
-use Rattle.ruled_cells.specs.declared.about.SeatView.{SeatView}
-use Rattle.ruled_cells.specs.Booking.{Fits}
-use Rattle.ruled_cells.specs.Reads.{ChiefReads, MemberReads}
-use Rattle.ruled_cells.specs.Resting.{Accounts}
-use Rattle.ruled_cells.specs.Ruling.{access_cell, names}
+use Rattle.ruled_cells.specs.{Booking.Fits, Reads.ChiefReads, Reads.MemberReads, Resting.Accounts, Ruling.access_cell, Ruling.names}
 use Rattle.ruled_cells.specs.Seats.{HasCell, HasFirst, NoTurns, among_of, seat_number, place_of, turns_of, seat_view}
-use Rattle.ruled_cells.specs.Telling.{GaveCell, MayGive, MayGiveFirst, MayNote, fresh_seat, values}
+use Rattle.ruled_cells.specs.{Telling.GaveCell, Telling.MayGive, Telling.MayGiveFirst, Telling.MayNote, Telling.fresh_seat, Telling.values, declared.about.About.About}
+use Rattle.ruled_cells.specs.declared.{about.SeatView.SeatView, cells.Cells.Cells, seat.Seat.Seat}
+use Rattle.journal_core.specs.declared.entries.Entry.{Entry}
 
 module _ {F S : Type 0} where
   -- how many cells there are beside the first

@@ -2,11 +2,9 @@
 use Rattle.std.specs.Prelude.{◌≡◌, ℕ, ◌<◌, ◌≤◌, Bool, false, List, [], ◌∷◌, ◌++◌, length}
 use mathlib.Core.Option.{some}
 use lib.ListN.{get_elem?}
-use Rattle.dcd_base.specs.declared.steps.Stamp.{Stamp}
-use Rattle.dcd_base.specs.declared.steps.Actor.{Actor}
+use Rattle.dcd_base.specs.declared.steps.{Stamp.Stamp, Actor.Actor}
 use Rattle.region_config.specs.Configurations.{Configuration}
-use Rattle.journal_core.specs.declared.entries.Entry.{Entry}
-use Rattle.journal_core.specs.Entries.{is_control}
+use Rattle.journal_core.specs.{declared.entries.Entry.Entry, Entries.is_control}
 use Rattle.ruled_cells.specs.Stamps.{Below, IsControlLog}
 
 module _ {S : Type 0} where

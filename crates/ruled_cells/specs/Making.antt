@@ -2,12 +2,8 @@
 use Rattle.std.specs.Prelude.{◌≡◌, ◌⊎◌, ℕ, suc, ◌<◌, List, [], length, None, true}
 use mathlib.Core.Option.{some}
 use lib.ListN.{get_elem?}
-use Rattle.ruled_cells.specs.declared.about.About.{About}
-use Rattle.ruled_cells.specs.declared.about.SeatView.{SeatView}
-use Rattle.ruled_cells.specs.declared.cell_value.CellValue.{CellValue}
-use Rattle.ruled_cells.specs.declared.cell_value.CellValue.TheVariants.{Rest}
-use Rattle.ruled_cells.specs.Turning.{HasTurn, NoTurn, Seated, IsIn}
-use Rattle.ruled_cells.specs.Telling.{fresh_seat}
+use Rattle.ruled_cells.specs.{Telling.fresh_seat, Turning.HasTurn, Turning.NoTurn, Turning.Seated, Turning.IsIn, declared.about.About.About, declared.about.SeatView.SeatView}
+use Rattle.ruled_cells.specs.declared.cell_value.CellValue.{CellValue, TheVariants.Rest}
 
 module _ {F S : Type 0} where
   -- so many seats are made

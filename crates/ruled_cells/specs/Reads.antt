@@ -1,7 +1,6 @@
 -- What the rule of the cells reads of the values that they hold. A cell of the row has an index, from 0.
 use Rattle.std.specs.Prelude.{ℕ, Bool, List}
-use Rattle.dcd_base.specs.declared.steps.Stamp.{Stamp}
-use Rattle.dcd_base.specs.declared.steps.Actor.{Actor}
+use Rattle.dcd_base.specs.declared.steps.{Stamp.Stamp, Actor.Actor}
 use Rattle.region_config.specs.Configurations.{Configuration}
 use Rattle.journal_core.specs.declared.entries.Entry.{Entry}
 use Rattle.ruled_cells.specs.declared.about.About.{About}

@@ -4,12 +4,7 @@ use mathlib.Core.Option.{some}
 use lib.ListN.{get_elem?}
 use Rattle.dcd_base.specs.declared.steps.Stamp.{Stamp}
 use Rattle.journal_core.specs.declared.entries.Entry.{Entry}
-use Rattle.ruled_cells.specs.declared.about.About.{About}
-use Rattle.ruled_cells.specs.Stamps.{Rise, IsControlLog}
-use Rattle.ruled_cells.specs.Laws.{Tidy}
-use Rattle.ruled_cells.specs.Ruling.{Names, IsOwn}
-use Rattle.ruled_cells.specs.Booking.{Fits, IsRisingTo}
-use Rattle.ruled_cells.specs.Telling.{values}
+use Rattle.ruled_cells.specs.{declared.about.About.About, Stamps.Rise, Stamps.IsControlLog, Laws.Tidy, Ruling.Names, Ruling.IsOwn, Booking.Fits, Booking.IsRisingTo, Telling.values}
 
 module _ {F S : Type 0} (w : Names F S) where
   -- the cell k is x, and right for the journal

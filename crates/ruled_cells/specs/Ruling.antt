@@ -3,18 +3,11 @@
 use Rattle.std.specs.Prelude.{◌≡◌, ◌≢◌, ℕ, zero, suc, ◌+◌, ◌<◌, ◌≤◌, Bool, true, false, List, length, slice_index, Option, None}
 use mathlib.Core.Option.{some}
 use lib.ListN.{get_elem?}
-use Rattle.dcd_base.specs.declared.steps.Stamp.{Stamp}
-use Rattle.dcd_base.specs.declared.steps.Actor.{Actor}
+use Rattle.dcd_base.specs.declared.steps.{Stamp.Stamp, Actor.Actor}
 use Rattle.region_config.specs.Configurations.{Configuration}
-use Rattle.journal_core.specs.declared.entries.Entry.{Entry}
-use Rattle.journal_core.specs.Entries.{is_control}
-use Rattle.ruled_cells.specs.declared.about.About.{About}
-use Rattle.ruled_cells.specs.declared.about.SeatView.{SeatView}
-use Rattle.ruled_cells.specs.declared.cell_value.CellValue.{CellValue}
-use Rattle.ruled_cells.specs.declared.cell_value.CellValue.TheVariants.{First, Rest}
-use Rattle.ruled_cells.specs.Stamps.{Rise, IsControlLog, stamps_after, pending}
-use Rattle.ruled_cells.specs.Laws.{Tidy}
-use Rattle.ruled_cells.specs.Reads.{ChiefReads, MemberReads, about_of}
+use Rattle.journal_core.specs.{declared.entries.Entry.Entry, Entries.is_control}
+use Rattle.ruled_cells.specs.{Laws.Tidy, Reads.ChiefReads, Reads.MemberReads, Reads.about_of, Stamps.Rise, Stamps.IsControlLog, Stamps.stamps_after, Stamps.pending, declared.about.About.About}
+use Rattle.ruled_cells.specs.declared.{about.SeatView.SeatView, cell_value.CellValue.CellValue, cell_value.CellValue.TheVariants.First, cell_value.CellValue.TheVariants.Rest}
 
 -- what the two traits name, by the number of a cell
 pub record Names (F S : Type 0) : Type 1 where

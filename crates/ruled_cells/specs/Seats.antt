@@ -1,11 +1,8 @@
 -- What a seat shows.
 use Rattle.std.specs.Prelude.{◌≡◌, ℕ, suc, List, Option}
 use Rattle.atomic_table.specs.Seated.{TableId}
-use Rattle.ruled_cells.specs.declared.about.SeatView.{SeatView}
-use Rattle.ruled_cells.specs.declared.cell_value.CellValue.{CellValue}
-use Rattle.ruled_cells.specs.declared.cell_value.CellValue.TheVariants.{First, Rest}
-use Rattle.ruled_cells.specs.declared.seat.Seat.{Seat}
-use Rattle.ruled_cells.specs.Turning.{HasTurn, NoTurn}
+use Rattle.ruled_cells.specs.{Turning.HasTurn, Turning.NoTurn, declared.about.SeatView.SeatView, declared.cell_value.CellValue.CellValue}
+use Rattle.ruled_cells.specs.declared.{cell_value.CellValue.TheVariants.First, cell_value.CellValue.TheVariants.Rest, seat.Seat.Seat}
 
 module _ {F S : Type 0} where
   abbrev pub seat_number : Seat F S → ℕ

@@ -3,8 +3,7 @@ use Rattle.std.specs.Prelude.{◌≡◌, ◌⊎◌, ℕ, ◌+◌, ◌<◌, Bool,
 use mathlib.Core.Option.{some}
 use lib.ListN.{get_elem?}
 use Rattle.dcd_base.specs.declared.steps.Stamp.{Stamp}
-use Rattle.journal_core.specs.declared.entries.Entry.{Entry}
-use Rattle.journal_core.specs.Entries.{is_control}
+use Rattle.journal_core.specs.{declared.entries.Entry.Entry, Entries.is_control}
 
 abbrev pub stamp : ℕ → ℕ → Stamp
 stamp number count = record { number = number; count = count }

@@ -3,18 +3,9 @@ use Rattle.std.specs.Prelude.{◌≡◌, ◌⊎◌, ℕ, suc, ◌+◌, ◌^◌, 
 use mathlib.Core.Option.{some}
 use lib.ListN.{get_elem?}
 use Rattle.dcd_base.specs.declared.steps.Actor.{Actor}
-use Rattle.journal_core.specs.declared.entries.Entry.{Entry}
-use Rattle.journal_core.specs.declared.acts.Act.{Act}
-use Rattle.journal_core.specs.declared.acts.Reply.{Reply}
-use Rattle.journal_core.specs.Entries.{is_control}
-use Rattle.ruled_cells.specs.declared.about.About.{About}
-use Rattle.ruled_cells.specs.declared.about.SeatView.{SeatView}
-use Rattle.ruled_cells.specs.declared.cell_value.CellValue.{CellValue}
-use Rattle.ruled_cells.specs.declared.cell_value.CellValue.TheVariants.{First, Rest}
-use Rattle.ruled_cells.specs.Turning.{HasTurn}
-use Rattle.ruled_cells.specs.Stamps.{stamp, Below, IsControlLog, stamps_after, pending}
-use Rattle.ruled_cells.specs.Laws.{Tidy}
-use Rattle.ruled_cells.specs.Ruling.{Names}
+use Rattle.journal_core.specs.{declared.entries.Entry.Entry, declared.acts.Act.Act, declared.acts.Reply.Reply, Entries.is_control}
+use Rattle.ruled_cells.specs.{Laws.Tidy, Ruling.Names, Stamps.stamp, Stamps.Below, Stamps.IsControlLog, Stamps.stamps_after, Stamps.pending, Turning.HasTurn, declared.about.About.About}
+use Rattle.ruled_cells.specs.declared.{about.SeatView.SeatView, cell_value.CellValue.CellValue, cell_value.CellValue.TheVariants.First, cell_value.CellValue.TheVariants.Rest}
 
 -- ---- views
 

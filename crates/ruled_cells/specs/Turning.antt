@@ -5,8 +5,7 @@ use Rattle.std.specs.Prelude.{◌≡◌, ◌≢◌, ℕ, ◌+◌, ◌*◌, ◌/�
 use mathlib.Core.Option.{some}
 use mathlib.Core.Option as maybe
 use lib.ListN.{get_elem?}
-use Rattle.atomic_table.specs.Seated.{TableId}
-use Rattle.atomic_table.specs.Table.{State, Me, Step, rest}
+use Rattle.atomic_table.specs.{Seated.TableId, Table.State, Table.Me, Table.Step, Table.rest}
 use Rattle.ruled_cells.specs.declared.turns.seat_state.SeatState.{SeatState}
 
 module _ {X : Type 0} where

@@ -1,8 +1,6 @@
 -- Joining granules to runs loses none.
 use Rattle.std.proofs.Common.{◌≡◌, ℕ, ◌+◌, Bool, List, [], ◌∷◌, length, map, eqb, refl, ◌∙◌, arith, inl, inr}
-use Rattle.std.specs.Prelude.{◌&&◌}
-use Rattle.std.proofs.lemmas.Bool.{cases_Bool}
-use Rattle.std.proofs.lemmas.List.Sums.{sum_by-cons}
+use Rattle.std.{specs.Prelude.◌&&◌, proofs.lemmas.Bool.cases_Bool, proofs.lemmas.List.Sums.sum_by-cons}
 use Rattle.region_config.specs.dcd_base.specs.declared.media.Run.{Run}
 use Rattle.granule_map.specs.Choices.{joined, joined_onto}
 use Rattle.sanitizer.specs.Turns.{granules_of_runs, run_of_pair}

@@ -1,12 +1,8 @@
 -- What is left once some runs are free.
 use Rattle.std.proofs.Common.{◌≡◌, ℕ, ◌+◌, ◌<◌, ◌≤◌, Bool, true, false, cond, List, [], ◌∷◌, ◌++◌, length, get_or, take, drop, replicate, refl, ap, ◌∙◌, sym, subst, arith, suc, length-append, length-drop}
-use Rattle.std.specs.Prelude.{All, ◌||◌}
-use Rattle.std.proofs.lemmas.List.{length-replicate, length-take-le}
-use Rattle.region_config.specs.dcd_base.specs.declared.media.Run.{Run}
-use Rattle.region_config.specs.dcd_base.specs.Words.{has_granule, has_in_runs}
-use Rattle.granule_map.specs.StateLists.{with_run}
-use Rattle.granule_map.specs.declared.states.GranuleState.{GranuleState}
-use Rattle.granule_map.proofs.Changes.{state_after_run}
+use Rattle.std.{specs.Prelude.All, specs.Prelude.◌||◌, proofs.lemmas.List.length-replicate, proofs.lemmas.List.length-take-le}
+use Rattle.region_config.specs.dcd_base.specs.{declared.media.Run.Run, Words.has_granule, Words.has_in_runs}
+use Rattle.granule_map.{specs.StateLists.with_run, specs.declared.states.GranuleState.GranuleState, proofs.Changes.state_after_run}
 use Rattle.sanitizer.specs.Turns.{AreFreed, freed}
 
 length-with_run : (states : List GranuleState) (run : Run) (state : GranuleState) → run.first + run.count ≤ length states → length (with_run states run state) ≡ length states

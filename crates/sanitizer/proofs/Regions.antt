@@ -1,11 +1,8 @@
 -- Which adjacent granules are of one region.
 use Rattle.std.proofs.Common.{◌≡◌, ℕ, suc, ◌+◌, ◌-◌, ◌<◌, ◌≤◌, true, false, length, ap, sym, ◌∙◌, arith}
 use Rattle.std.proofs.lemmas.Bool.{eq-eqb, ne_eqb}
-use Rattle.region_config.specs.dcd_base.specs.declared.media.Run.{Run}
-use Rattle.region_config.specs.Configurations.{Configuration}
-use Rattle.region_config.specs.Granules.{first_granule, granule_total, region_of, same_region}
-use Rattle.region_config.proofs.Faultless.{granules_rise}
-use Rattle.region_config.proofs.GranuleLemmas.{of_region, region_is}
+use Rattle.region_config.{proofs.Faultless.granules_rise, proofs.GranuleLemmas.of_region, proofs.GranuleLemmas.region_is, specs.Configurations.Configuration}
+use Rattle.region_config.specs.{Granules.first_granule, Granules.granule_total, Granules.region_of, Granules.same_region, dcd_base.specs.declared.media.Run.Run}
 use Rattle.sanitizer.specs.Turns.{IsInRegion}
 
 module _ (c : Configuration) (r : ℕ) (known : r < length c.regions) where

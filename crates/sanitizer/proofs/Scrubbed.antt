@@ -1,12 +1,9 @@
 -- What a turn zeroes was dirty, and two tests that agree give the same turn.
 use Rattle.std.proofs.Common.{◌≡◌, ℕ, zero, suc, ◌+◌, ◌<◌, ◌≤◌, Bool, true, List, [], ◌∷◌, map, take, eqb, leb, ltb, refl, ap, subst, arith, inl, inr}
-use Rattle.std.specs.Prelude.{◌&&◌}
-use Rattle.std.specs.List.{filter, list_all, range_with_len}
 use Rattle.std.proofs.lemmas.Bool.{and_from, and_parts, cases_Bool, cases_lt, eqb-true, false≢true, leb-true, ltb-true}
-use Rattle.region_config.specs.dcd_base.specs.Words.{has_granule, has_in_runs}
+use Rattle.std.specs.{List.filter, List.list_all, List.range_with_len, Prelude.◌&&◌}
+use Rattle.region_config.specs.{dcd_base.specs.Words.has_granule, dcd_base.specs.Words.has_in_runs, Configurations.Configuration, Granules.granule_total, Granules.same_region}
 use Rattle.granule_map.specs.Choices.{joined, joined_onto, passing}
-use Rattle.region_config.specs.Configurations.{Configuration}
-use Rattle.region_config.specs.Granules.{granule_total, same_region}
 use Rattle.sanitizer.specs.Turns.{run_of_pair, scrub_runs, lowest_dirty}
 
 -- runs of numbers that all pass

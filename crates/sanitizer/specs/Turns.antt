@@ -1,12 +1,8 @@
 -- Which granules a turn of the sanitizer zeroes, and what it leaves. `dirty` tells whether a granule is dirty.
 use Rattle.std.specs.Prelude.{◌≡◌, ℕ, suc, ◌+◌, ◌-◌, ◌<◌, ◌≤◌, Bool, if◌then◌else◌, List, [], ◌∷◌, fold, map, take, slice_index_or, sum_by, Option, Some, None}
+use Rattle.region_config.specs.{Configurations.Configuration, Granules.first_granule, Granules.granule_total, Granules.region_of, Granules.same_region, dcd_base.specs.Words.has_in_runs}
 use Rattle.region_config.specs.dcd_base.specs.declared.media.Run.{Run}
-use Rattle.region_config.specs.dcd_base.specs.Words.{has_in_runs}
-use Rattle.granule_map.specs.Choices.{joined, lowest_from, passing}
-use Rattle.granule_map.specs.StateLists.{with_run}
-use Rattle.granule_map.specs.declared.states.GranuleState.{GranuleState}
-use Rattle.region_config.specs.Configurations.{Configuration}
-use Rattle.region_config.specs.Granules.{first_granule, granule_total, region_of, same_region}
+use Rattle.granule_map.specs.{Choices.joined, Choices.lowest_from, Choices.passing, StateLists.with_run, declared.states.GranuleState.GranuleState}
 
 -- the granules of a turn: the lowest dirty ones, so many, or all where there are fewer
 abbrev pub lowest_dirty : Configuration → (ℕ → Bool) → ℕ → List ℕ

@@ -1,11 +1,7 @@
 -- Fields that are put one after another.
 use Rattle.std.proofs.Common.{◌≡◌, ℕ, suc, ◌+◌, ◌*◌, ◌<◌, ◌≤◌, arith, map, take, length, get_or, subst, List, [], ◌∷◌, ◌++◌, sym, ap, ◌∙◌, append-nil, append_assoc}
-use Rattle.std.specs.Prelude.{flat_map}
-use Rattle.std.proofs.lemmas.List.{take_more, map-append}
-use Rattle.std.proofs.Math.Nat.{mul-le-mul_right, suc-mul}
-use Rattle.std.proofs.lemmas.Grind.{flat_map-append}
-use Rattle.cci_codec.specs.dcd_base.specs.Layouts.{Field, spell, spelling}
-use Rattle.cci_codec.specs.dcd_base.proofs.Agreement.{fits-append}
+use Rattle.std.{specs.Prelude.flat_map, proofs.lemmas.List.take_more, proofs.lemmas.List.map-append, proofs.Math.Nat.mul-le-mul_right, proofs.Math.Nat.suc-mul, proofs.lemmas.Grind.flat_map-append}
+use Rattle.cci_codec.specs.dcd_base.{specs.Layouts.Field, specs.Layouts.spell, specs.Layouts.spelling, proofs.Agreement.fits-append}
 use Rattle.script_codec.specs.Writing.{AppendsLines}
 
 pub appends_then : {old mid new : List ℕ} {fs gs : List Field} → AppendsLines old mid fs → AppendsLines mid new gs → AppendsLines old new (fs ++ gs)

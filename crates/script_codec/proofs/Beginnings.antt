@@ -1,14 +1,9 @@
 -- How reading a script begins.
 use Rattle.std.proofs.Common.{◌≡◌, ℕ, ◌<◌, ◌≤◌, List, length, Ok, Err, refl, sym, ap, ◌∙◌}
 use Rattle.std.proofs.lemmas.Bool.{le-ltb, lt-ltb}
-use Rattle.script_codec.specs.declared.heads.Head.{Head}
-use Rattle.script_codec.specs.declared.faults.ScriptFault.{ScriptFault}
-use Rattle.script_codec.specs.Heads.{head_from}
-use Rattle.script_codec.specs.LineByLine.{Begins, FailsInHead, head_then}
-use Rattle.script_codec.specs.Lines.{lines_from}
-use Rattle.script_codec.specs.Reading.{fields_in, head_in, most_bytes, most_lines, script_in}
+use Rattle.script_codec.{proofs.ScriptLaws.script_sound, specs.Heads.head_from, specs.LineByLine.Begins, specs.LineByLine.FailsInHead, specs.LineByLine.head_then, specs.Lines.lines_from}
+use Rattle.script_codec.specs.{Reading.fields_in, Reading.head_in, Reading.most_bytes, Reading.most_lines, Reading.script_in, declared.faults.ScriptFault.ScriptFault, declared.heads.Head.Head}
 use Rattle.cci_codec.specs.dcd_base.proofs.Fields.{IsBytes}
-use Rattle.script_codec.proofs.ScriptLaws.{script_sound}
 
 pub too_long : (bytes : List ℕ) → most_bytes < length bytes → FailsInHead bytes ScriptFault.TooLong
 unfolding head_in script_in

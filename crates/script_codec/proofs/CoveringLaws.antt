@@ -1,16 +1,11 @@
 -- A run of the lines in order covers the script.
 use Rattle.std.proofs.Common.{◌≡◌, ℕ, ◌+◌, ◌-◌, ◌<◌, ◌≤◌, cond, List, [], ◌∷◌, ◌++◌, length, Some, refl, sym, ap, ◌∙◌, subst, arith, append_assoc, length-append, zero-add}
+use Rattle.std.{proofs.lemmas.List.Elements.All-cons, proofs.lemmas.List.Kept.AllPairs-cons, proofs.lemmas.List.Sums.sum_by-append, specs.List.All, specs.List.AllByRecursion}
 use Rattle.std.specs.Prelude.{count_by, slice_get, AllPairs}
-use Rattle.std.specs.List.{All, AllByRecursion}
-use Rattle.std.proofs.lemmas.List.Elements.{All-cons}
-use Rattle.std.proofs.lemmas.List.Kept.{AllPairs-cons}
-use Rattle.std.proofs.lemmas.List.Sums.{sum_by-append}
 use Rattle.cci_codec.specs.dcd_base.specs.declared.steps.Actor.{Actor}
-use Rattle.journal_core.specs.declared.acts.Act.{Act}
-use Rattle.journal_core.specs.declared.entries.Entry.{Entry}
-use Rattle.script_codec.specs.declared.script_line.Line.{Line}
+use Rattle.journal_core.specs.declared.{acts.Act.Act, entries.Entry.Entry}
+use Rattle.script_codec.specs.{Covering.is_line, Covering.pass_of, Covering.IsOfLine, Covering.Covers, Covering.IsEntryOf, Covering.Runs, declared.script_line.Line.Line}
 use Rattle.script_codec.specs.declared.scripts.Script.{Script}
-use Rattle.script_codec.specs.Covering.{is_line, pass_of, IsOfLine, Covers, IsEntryOf, Runs}
 
 -- ---- one more line at the end
 pub Runs-mark : (hosts lanes number : ℕ) (lines : List Line) (entries : List Entry) → Runs hosts lanes number lines entries → Runs hosts lanes number (lines ++ Line.Mark ∷ []) entries

@@ -1,15 +1,11 @@
 -- What reading a field answers is what stands there.
 use Rattle.std.proofs.Common.{◌≡◌, ℕ, zero, suc, ◌+◌, ◌^◌, ◌<◌, ◌≤◌, Bool, true, false, cond, nat_lt, List, [], ◌∷◌, length, drop, Result, Ok, Err, refl, sym, ap, ◌∙◌, subst, arith, length-take, length-drop}
-use Rattle.std.specs.Prelude.{flat_map}
-use Rattle.std.specs.Int.{Width, byte_len, from_le_bytes}
-use Rattle.std.proofs.lemmas.Bool.{le-ltb}
+use Rattle.std.{specs.Prelude.flat_map, specs.Int.Width, specs.Int.byte_len, specs.Int.from_le_bytes, proofs.lemmas.Bool.le-ltb}
 use borrow.Author.Tests.{ltb-false}
+use Rattle.cci_codec.specs.dcd_base.proofs.{Fields.IsBytes, Widths.IsBytes-drop, Widths.IsBytes-take, Widths.IsWide}
 use Rattle.cci_codec.specs.dcd_base.specs.Layouts.{Field, Number, Reserved, spell}
-use Rattle.cci_codec.specs.dcd_base.proofs.Fields.{IsBytes}
-use Rattle.cci_codec.specs.dcd_base.proofs.Widths.{IsBytes-drop, IsBytes-take, IsWide}
-use Rattle.script_codec.specs.declared.faults.ScriptFault.{ScriptFault}
-use Rattle.script_codec.specs.Fields.{◌>>=◌, skip, part, number_from, many_from}
 use Rattle.script_codec.proofs.Spans.{Stands, Spans, spans_then, parted}
+use Rattle.script_codec.specs.{Fields.◌>>=◌, Fields.skip, Fields.part, Fields.number_from, Fields.many_from, declared.faults.ScriptFault.ScriptFault}
 
 pub part_bytes : (n : ℕ) (bytes : List ℕ) (at : ℕ) → IsBytes bytes → IsBytes (part n bytes at)
 part_bytes n bytes at small = IsBytes-take n (drop at bytes) (IsBytes-drop at bytes small)

@@ -1,30 +1,17 @@
 -- What reading the head answers is what stands there.
 use Rattle.std.proofs.Common.{◌≡◌, ℕ, zero, suc, ◌+◌, ◌*◌, ◌/◌, ◌%◌, ◌<◌, Bool, true, false, cond, ◌==◌, not, List, [], ◌∷◌, ◌++◌, length, get_or, take, drop, map, Option, Some, None, Ok, refl, sym, ap, ◌∙◌, subst, arith, bit_and}
-use Rattle.std.specs.Prelude.{flat_map}
-use Rattle.std.specs.Int.{w8, w16, w32, w64}
-use Rattle.std.proofs.lemmas.List.Concat.{flat_map_single}
-use Rattle.std.proofs.lemmas.Nat.{and_mask}
-use Rattle.std.proofs.lemmas.Nat.Bits.{and_pow}
-use Rattle.std.proofs.lemmas.Bool.Decides.{nat_tests}
+use Rattle.std.proofs.lemmas.{Bool.Decides.nat_tests, List.Concat.flat_map_single, Nat.and_mask, Nat.Bits.and_pow}
+use Rattle.std.specs.{Int.w8, Int.w16, Int.w32, Int.w64, Prelude.flat_map}
 use lib.Pointwise.{pointwise, bytes_decides}
-use Rattle.cci_codec.specs.dcd_base.specs.Layouts.{Field, Number, Masked, Raw, Reserved}
-use Rattle.cci_codec.specs.dcd_base.specs.Words.{flag_of}
-use Rattle.region_config.specs.declared.region_spec.RegionSpec.{RegionSpec}
-use Rattle.region_config.specs.declared.faults.ConfigFault.{ConfigFault}
-use Rattle.region_config.specs.Configurations.{Configuration}
-use Rattle.region_config.specs.Setups.{bad_count, config_fault}
-use Rattle.script_codec.specs.declared.faults.ScriptFault.{ScriptFault}
-use Rattle.script_codec.specs.declared.heads.Head.{Head}
-use Rattle.script_codec.specs.Fields.{skip, part, number_from, many_from}
+use Rattle.cci_codec.specs.dcd_base.proofs.{Fields.IsBytes, Widths.wide_8, Widths.wide_16, Widths.wide_32, Widths.wide_64}
+use Rattle.cci_codec.specs.dcd_base.specs.{Layouts.Field, Layouts.Number, Layouts.Masked, Layouts.Raw, Layouts.Reserved, Words.flag_of}
+use Rattle.region_config.specs.{declared.region_spec.RegionSpec.RegionSpec, declared.faults.ConfigFault.ConfigFault, Configurations.Configuration, Setups.bad_count, Setups.config_fault}
+use Rattle.script_codec.proofs.{Spans.Stands, Spans.Spans, Spans.spans_then, Spans.parted, Writable.laned, Writable.count_good}
+use Rattle.script_codec.specs.{Fields.skip, Fields.part, Fields.number_from, Fields.many_from, declared.faults.ScriptFault.ScriptFault, declared.heads.Head.Head, declared.script_line.Line.Line}
+use Rattle.script_codec.specs.declared.scripts.Script.{Script}
 use Rattle.script_codec.specs.Heads.{magic_from, version_from, counts_from, told_lanes_from, lanes_and_reserved_from, one_lane_from, lanes_from, region_from, sound_config, config_of, config_from, head_from}
 use Rattle.script_codec.specs.Scripts.{magic, region_fields, lanes_fields, bad_version, bad_lanes, are_lanes, start_fields, script_head, IsScript}
-use Rattle.script_codec.specs.declared.script_line.Line.{Line}
-use Rattle.script_codec.specs.declared.scripts.Script.{Script}
-use Rattle.script_codec.proofs.Writable.{laned, count_good}
-use Rattle.script_codec.proofs.Spans.{Stands, Spans, spans_then, parted}
 use Rattle.script_codec.proofs.FieldLaws.{part_bytes, bound, ok_is, passed, passing, skip_sound, skip_is, number_sound, number_is, many_sound, many_is}
-use Rattle.cci_codec.specs.dcd_base.proofs.Fields.{IsBytes}
-use Rattle.cci_codec.specs.dcd_base.proofs.Widths.{wide_8, wide_16, wide_32, wide_64}
 
 -- ---- the flags of a region
 flag_is : (n : ℕ) → n < 2 → flag_of (n == 1) ≡ n

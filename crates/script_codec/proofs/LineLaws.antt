@@ -1,27 +1,17 @@
 -- What reading a line answers is what stands there.
 use Rattle.std.proofs.Common.{◌≡◌, ℕ, zero, suc, ◌+◌, ◌*◌, ◌/◌, ◌%◌, ◌<◌, ◌≤◌, Bool, true, false, cond, nat_lt, ◌==◌, ◌&&◌, List, [], ◌∷◌, length, drop, Option, Some, None, Ok, Err, refl, sym, ap, ◌∙◌, subst, arith, length-drop}
-use Rattle.std.specs.List.{list_all}
-use Rattle.std.specs.Int.{w8, w16, w64}
-use Rattle.std.proofs.lemmas.Bool.{le-ltb}
+use Rattle.std.{specs.List.list_all, specs.Int.w8, specs.Int.w16, specs.Int.w64, proofs.lemmas.Bool.le-ltb}
 use borrow.Author.Tests.{ltb-true, ltb-false, eqb-true}
-use Rattle.cci_codec.specs.dcd_base.specs.declared.ids.HostId.{HostId}
-use Rattle.cci_codec.specs.dcd_base.specs.declared.steps.Actor.{Actor}
-use Rattle.cci_codec.specs.dcd_base.specs.Layouts.{Number, Reads, is_byte}
-use Rattle.cci_codec.specs.declared.messages.Request.{Request}
-use Rattle.cci_codec.specs.declared.faults.MessageFault.{MessageFault}
-use Rattle.cci_codec.specs.Messages.{message_fault, request_in, request_fields, ReadsRequest}
-use Rattle.cci_codec.specs.dcd_base.proofs.Fields.{all_bytes, IsBytes}
 use Rattle.cci_codec.proofs.Reading.{no_message_fault, request_reads, request_read}
+use Rattle.cci_codec.specs.{Messages.message_fault, Messages.request_in, Messages.request_fields, Messages.ReadsRequest, dcd_base.proofs.Fields.all_bytes, dcd_base.proofs.Fields.IsBytes}
+use Rattle.cci_codec.specs.dcd_base.{proofs.Widths.wide_8, proofs.Widths.wide_16, proofs.Widths.wide_64, specs.Layouts.Number, specs.Layouts.Reads, specs.Layouts.is_byte}
+use Rattle.cci_codec.specs.{dcd_base.specs.declared.ids.HostId.HostId, dcd_base.specs.declared.steps.Actor.Actor, declared.faults.MessageFault.MessageFault, declared.messages.Request.Request}
 use Rattle.journal_core.specs.declared.acts.Act.{Act}
+use Rattle.script_codec.proofs.{Spans.Stands, Spans.Spans, Spans.spans_then, Spans.spans_out, Spans.spans_in, Spans.part_length, Writable.both_first, Writable.both_second}
+use Rattle.script_codec.specs.{Fields.skip, Fields.part, Fields.number_from, Scripts.actor_byte, Scripts.line_fields, Scripts.is_sound_line, declared.faults.ScriptFault.ScriptFault}
 use Rattle.script_codec.specs.declared.script_line.Line.{Line}
-use Rattle.script_codec.specs.declared.faults.ScriptFault.{ScriptFault}
-use Rattle.script_codec.specs.Fields.{skip, part, number_from}
 use Rattle.script_codec.specs.Lines.{is_host_byte, host_of, commander_of, host_from, commander_from, sound_message, message_of, message_from, command_from, load_from, store_from, scrub_from, line_from, kind_from}
-use Rattle.script_codec.specs.Scripts.{actor_byte, line_fields, is_sound_line}
-use Rattle.script_codec.proofs.Writable.{both_first, both_second}
-use Rattle.script_codec.proofs.Spans.{Stands, Spans, spans_then, spans_out, spans_in, part_length}
 use Rattle.script_codec.proofs.FieldLaws.{part_bytes, bound, ok_is, passed, passing, skip_sound, skip_is, number_sound, number_is}
-use Rattle.cci_codec.specs.dcd_base.proofs.Widths.{wide_8, wide_16, wide_64}
 
 and_false : (a : Bool) → (a && false) ≡ false
 and_false true = refl

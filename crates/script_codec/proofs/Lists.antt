@@ -1,10 +1,7 @@
 -- What a loop over fields of one form, or over lines, has read so far.
 use Rattle.std.proofs.Common.{◌≡◌, ℕ, zero, suc, List, [], ◌∷◌, ◌++◌, Result, Ok, Err, refl, sym, ap, ◌∙◌, append-nil, append_assoc, eqb, false}
+use Rattle.script_codec.specs.{Fields.◌>>=◌, Fields.many_from, LineByLine.line_then, Lines.kind_from, Lines.line_from, Lines.end_from, Lines.lines_from, declared.faults.ScriptFault.ScriptFault}
 use Rattle.script_codec.specs.declared.script_line.Line.{Line}
-use Rattle.script_codec.specs.declared.faults.ScriptFault.{ScriptFault}
-use Rattle.script_codec.specs.Fields.{◌>>=◌, many_from}
-use Rattle.script_codec.specs.LineByLine.{line_then}
-use Rattle.script_codec.specs.Lines.{kind_from, line_from, end_from, lines_from}
 
 -- these before those that are still to come
 abbrev pub with_fields : {A : Type 0} → List A → Result (List A × ℕ) ScriptFault → Result (List A × ℕ) ScriptFault

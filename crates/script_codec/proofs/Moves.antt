@@ -1,22 +1,11 @@
 -- What is read of bytes is read of them behind others, so many bytes further on.
 use Rattle.std.proofs.Common.{◌≡◌, ℕ, zero, suc, ◌+◌, ◌/◌, ◌%◌, ◌≤◌, Bool, true, false, nat_lt, ◌==◌, List, [], ◌∷◌, ◌++◌, length, take, drop, Option, Some, None, Result, Ok, Err, inl, inr, refl, sym, ap, subst, ◌∙◌, zero-add, add-zero, arith, length-append}
-use Rattle.std.specs.Prelude.{if◌then◌else◌}
-use Rattle.std.specs.Int.{Width, from_le_bytes, byte_len, w8, w16, w64}
-use Rattle.std.proofs.lemmas.Bool.{cases_lt, le-ltb, lt-ltb}
-use Rattle.std.proofs.lemmas.List.{drop-drop, length-take-le, take-append-drop}
-use Rattle.std.proofs.Math.Seq.{drop-append_seam}
-use Rattle.cci_codec.specs.dcd_base.specs.declared.steps.Actor.{Actor}
-use Rattle.cci_codec.specs.declared.faults.MessageFault.{MessageFault}
-use Rattle.cci_codec.specs.Messages.{message_fault}
-use Rattle.script_codec.specs.declared.script_line.Line.{Line}
-use Rattle.script_codec.specs.declared.faults.ScriptFault.{ScriptFault}
-use Rattle.script_codec.specs.Fields.{◌>>=◌, skip, part, number_from}
-use Rattle.script_codec.specs.declared.heads.Head.{Head}
-use Rattle.script_codec.specs.LineByLine.{Begins, behind_head}
-use Rattle.script_codec.specs.Reading.{most_lines}
+use Rattle.std.proofs.{Math.Seq.drop-append_seam, lemmas.Bool.cases_lt, lemmas.Bool.le-ltb, lemmas.Bool.lt-ltb, lemmas.List.drop-drop, lemmas.List.length-take-le, lemmas.List.take-append-drop}
+use Rattle.std.specs.{Int.Width, Int.from_le_bytes, Int.byte_len, Int.w8, Int.w16, Int.w64, Prelude.if◌then◌else◌}
+use Rattle.cci_codec.specs.{dcd_base.specs.declared.steps.Actor.Actor, declared.faults.MessageFault.MessageFault, Messages.message_fault}
+use Rattle.script_codec.specs.{Fields.◌>>=◌, Fields.skip, Fields.part, Fields.number_from, LineByLine.Begins, LineByLine.behind_head, Moving.moved, Moving.moved_fault, Reading.most_lines}
+use Rattle.script_codec.specs.{Unread.Unread, declared.faults.ScriptFault.ScriptFault, declared.heads.Head.Head, declared.script_line.Line.Line}
 use Rattle.script_codec.specs.Lines.{is_host_byte, host_of, commander_of, host_from, commander_from, sound_message, message_of, message_from, command_from, load_from, store_from, scrub_from, line_from, kind_from, end_from, lines_from}
-use Rattle.script_codec.specs.Moving.{moved, moved_fault}
-use Rattle.script_codec.specs.Unread.{Unread}
 
 -- a value, and the place behind it, so many bytes further on
 abbrev shifted : {A : Type 0} → ℕ → Result (A × ℕ) ScriptFault → Result (A × ℕ) ScriptFault

@@ -1,25 +1,15 @@
 -- A script is read exactly where its fields stand.
 use Rattle.std.proofs.Common.{◌≡◌, ℕ, zero, suc, ◌+◌, ◌<◌, ◌≤◌, Bool, true, false, cond, nat_lt, ◌==◌, List, [], ◌∷◌, ◌++◌, length, get_or, Ok, Err, refl, sym, subst, arith, append_assoc}
-use Rattle.std.specs.Prelude.{flat_map}
-use Rattle.std.specs.List.{list_all}
-use Rattle.std.specs.Int.{w8}
-use Rattle.std.proofs.lemmas.Bool.{le-ltb}
+use Rattle.std.{specs.Prelude.flat_map, specs.List.list_all, specs.Int.w8, proofs.lemmas.Bool.le-ltb}
 use borrow.Author.Tests.{ltb-true, ltb-false, eqb-true}
-use Rattle.cci_codec.specs.dcd_base.specs.Layouts.{Field, Number, is_byte}
-use Rattle.cci_codec.specs.dcd_base.proofs.Fields.{all_bytes, IsBytes}
-use Rattle.script_codec.specs.declared.script_line.Line.{Line}
-use Rattle.script_codec.specs.declared.scripts.Script.{Script}
-use Rattle.script_codec.specs.declared.faults.ScriptFault.{ScriptFault}
-use Rattle.script_codec.specs.Fields.{◌>>=◌}
-use Rattle.script_codec.specs.Heads.{head_from}
-use Rattle.script_codec.specs.Lines.{kind_from, line_from, end_from, lines_from}
-use Rattle.script_codec.specs.Reading.{most_bytes, most_lines, fields_in, script_in}
-use Rattle.script_codec.specs.Scripts.{line_fields, is_sound_line, script_head, script_fields, ReadsScript}
-use Rattle.script_codec.proofs.Writable.{both_first, both_second, counted, laned}
-use Rattle.script_codec.proofs.Spans.{Spans, spans_then, parted, reads_from_spans, spans_from_reads}
-use Rattle.script_codec.proofs.FieldLaws.{bound, ok_is, passed}
-use Rattle.script_codec.proofs.HeadLaws.{with_head, head_sound, head_is}
+use Rattle.cci_codec.specs.dcd_base.{specs.Layouts.Field, specs.Layouts.Number, specs.Layouts.is_byte, proofs.Fields.all_bytes, proofs.Fields.IsBytes}
+use Rattle.script_codec.proofs.{FieldLaws.bound, FieldLaws.ok_is, FieldLaws.passed, HeadLaws.with_head, HeadLaws.head_sound, HeadLaws.head_is}
 use Rattle.script_codec.proofs.LineLaws.{both, LineStands, line_sound, kind_sound, kind_is, line_is}
+use Rattle.script_codec.proofs.Spans.{Spans, spans_then, parted, reads_from_spans, spans_from_reads}
+use Rattle.script_codec.{proofs.Writable.both_first, proofs.Writable.both_second, proofs.Writable.counted, proofs.Writable.laned, specs.Fields.◌>>=◌, specs.Heads.head_from}
+use Rattle.script_codec.specs.{Lines.kind_from, Lines.line_from, Lines.end_from, Lines.lines_from, Reading.most_bytes, Reading.most_lines, Reading.fields_in, Reading.script_in}
+use Rattle.script_codec.specs.{Scripts.line_fields, Scripts.is_sound_line, Scripts.script_head, Scripts.script_fields, Scripts.ReadsScript, declared.faults.ScriptFault.ScriptFault}
+use Rattle.script_codec.specs.declared.{script_line.Line.Line, scripts.Script.Script}
 
 pub each_byte : (bytes : List ℕ) → list_all is_byte bytes ≡ true → IsBytes bytes
 each_byte [] all = λ i. omega arith

@@ -1,9 +1,7 @@
 -- Bytes that are fields one after another, from a place up to a place.
 use Rattle.std.proofs.Common.{◌≡◌, ℕ, zero, suc, ◌+◌, ◌-◌, ◌≤◌, List, [], ◌∷◌, ◌++◌, length, take, drop, replicate, refl, sym, ap, ◌∙◌, subst, arith, length-take, length-drop, add-zero, add_assoc}
+use Rattle.std.{proofs.lemmas.List.drop-drop, proofs.lemmas.List.drop-take, proofs.lemmas.List.drop_all, specs.Int.byte_len, specs.Int.bytes_low_first, specs.List.list_all, specs.List.AllByRecursion}
 use Rattle.std.specs.Prelude.{IsTrue}
-use Rattle.std.specs.List.{list_all, AllByRecursion}
-use Rattle.std.specs.Int.{byte_len, bytes_low_first}
-use Rattle.std.proofs.lemmas.List.{drop-drop, drop-take, drop_all}
 use Rattle.cci_codec.specs.dcd_base.specs.Layouts.{Field, Number, Masked, Raw, Reserved, Fixed, spell, is_byte, FitsField, ReadsField, ReadsFields, Reads}
 
 -- how many bytes a field has

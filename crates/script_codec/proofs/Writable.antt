@@ -1,22 +1,13 @@
 -- What a script that may be written is, line by line.
 use Rattle.std.proofs.Common.{◌≡◌, ℕ, ◌+◌, ◌*◌, ◌<◌, ◌≤◌, inl, inr, Bool, true, false, ◌&&◌, ◌==◌, List, [], ◌∷◌, length, Some, None, refl, sym, ◌∙◌, arith}
-use Rattle.std.specs.Prelude.{IsTrue, nat_lt}
-use Rattle.std.specs.List.{list_all, All}
-use Rattle.std.proofs.lemmas.Bool.Decides.{nat_tests}
-use Rattle.std.proofs.lemmas.Bool.{lt-ltb}
+use Rattle.std.{specs.Prelude.IsTrue, specs.Prelude.nat_lt, specs.List.list_all, specs.List.All, proofs.lemmas.Bool.Decides.nat_tests, proofs.lemmas.Bool.lt-ltb, proofs.lemmas.List.Elements.All-cons}
 use borrow.Author.Tests.{ltb-true}
 use Rattle.cci_codec.specs.dcd_base.specs.declared.steps.Actor.{Actor}
-use Rattle.region_config.specs.Configurations.{Configuration}
+use Rattle.region_config.{proofs.Faultless.GoodCount, proofs.Faultless.count_found, proofs.Faultless.good_count, specs.Configurations.Configuration, specs.Setups.config_fault, specs.Setups.bad_count}
 use Rattle.region_config.specs.declared.faults.ConfigFault.{ConfigFault}
-use Rattle.region_config.specs.Setups.{config_fault, bad_count}
-use Rattle.journal_core.specs.declared.acts.Act.{Act}
-use Rattle.script_codec.specs.declared.script_line.Line.{Line}
+use Rattle.journal_core.{specs.declared.acts.Act.Act, proofs.Sorting.two}
+use Rattle.script_codec.specs.{Scripts.is_sound_line, Scripts.are_lanes, Scripts.bad_version, Writing.IsWritable, Writing.has_spelling, Writing.has_short_message, declared.script_line.Line.Line}
 use Rattle.script_codec.specs.declared.scripts.Script.{Script}
-use Rattle.script_codec.specs.Scripts.{is_sound_line, are_lanes, bad_version}
-use Rattle.script_codec.specs.Writing.{IsWritable, has_spelling, has_short_message}
-use Rattle.region_config.proofs.Faultless.{GoodCount, count_found, good_count}
-use Rattle.std.proofs.lemmas.List.Elements.{All-cons}
-use Rattle.journal_core.proofs.Sorting.{two}
 
 -- both tests hold
 pub both_first : (a b : Bool) → (a && b) ≡ true → a ≡ true

@@ -1,22 +1,15 @@
 -- What is written reads back.
 use Rattle.std.proofs.Common.{◌≡◌, ℕ, ◌==◌, ◌≤◌, Bool, true, false, cond, List, [], ◌∷◌, ◌++◌, length, map, Result, Ok, Err, refl, sym, ap, ◌∙◌, subst, arith, lit<}
-use Rattle.std.specs.Prelude.{flat_map, IfOk}
-use Rattle.std.specs.List.{AllByRecursion, list_all}
-use Rattle.std.proofs.lemmas.Bool.{le-leb}
-use Rattle.script_codec.proofs.LineLaws.{both}
-use Rattle.std.specs.Int.{w8, w64}
-use Rattle.cci_codec.specs.dcd_base.specs.Layouts.{Field, Number, Reserved, Reads, FitsField}
+use Rattle.std.{specs.Prelude.flat_map, specs.Prelude.IfOk, specs.List.AllByRecursion, specs.List.list_all, proofs.lemmas.Bool.le-leb, specs.Int.w8, specs.Int.w64}
+use Rattle.script_codec.proofs.{FieldLaws.ok_is, LineLaws.both, ScriptLaws.script_is, ScriptLaws.script_sound}
+use Rattle.script_codec.specs.Reading.{script_in, fault_of, IsScriptRead, IsReadAs}
+use Rattle.script_codec.specs.Scripts.{region_fields, start_fields, script_head, line_fields, script_fields, IsScript, ReadsScript}
+use Rattle.script_codec.specs.{Writing.IsWritable, Writing.WritesScript, Writing.script_bytes, Writing.has_short_message, declared.faults.ScriptFault.ScriptFault, declared.script_line.Line.Line}
+use Rattle.script_codec.specs.declared.scripts.Script.{Script}
 use Rattle.cci_codec.specs.dcd_base.proofs.Fields.{IsOfBytes, spelled_reads, length_of_fields, IsBytes}
+use Rattle.cci_codec.specs.dcd_base.specs.Layouts.{Field, Number, Reserved, Reads, FitsField}
 use Rattle.region_config.specs.declared.region_spec.RegionSpec.{RegionSpec}
 use Rattle.journal_core.specs.declared.acts.Act.{Act}
-use Rattle.script_codec.specs.declared.script_line.Line.{Line}
-use Rattle.script_codec.specs.declared.scripts.Script.{Script}
-use Rattle.script_codec.specs.declared.faults.ScriptFault.{ScriptFault}
-use Rattle.script_codec.specs.Scripts.{region_fields, start_fields, script_head, line_fields, script_fields, IsScript, ReadsScript}
-use Rattle.script_codec.specs.Reading.{script_in, fault_of, IsScriptRead, IsReadAs}
-use Rattle.script_codec.specs.Writing.{IsWritable, WritesScript, script_bytes, has_short_message}
-use Rattle.script_codec.proofs.ScriptLaws.{script_is, script_sound}
-use Rattle.script_codec.proofs.FieldLaws.{ok_is}
 
 abbrev AreOfBytes : List Field → Type 0
 AreOfBytes fields = AllByRecursion IsOfBytes fields

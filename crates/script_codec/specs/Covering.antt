@@ -2,10 +2,8 @@
 use Rattle.std.specs.Prelude.{◌≡◌, ◌≢◌, ℕ, ◌+◌, ◌-◌, ◌*◌, ◌<◌, Bool, true, false, List, [], ◌∷◌, length, count_by, slice_get, Some, AllPairs}
 use Rattle.std.specs.List.{AllByRecursion}
 use Rattle.cci_codec.specs.dcd_base.specs.declared.steps.Actor.{Actor}
-use Rattle.journal_core.specs.declared.acts.Act.{Act}
-use Rattle.journal_core.specs.declared.entries.Entry.{Entry}
-use Rattle.script_codec.specs.declared.script_line.Line.{Line}
-use Rattle.script_codec.specs.declared.scripts.Script.{Script}
+use Rattle.journal_core.specs.declared.{acts.Act.Act, entries.Entry.Entry}
+use Rattle.script_codec.specs.declared.{script_line.Line.Line, scripts.Script.Script}
 
 abbrev pub is_line : Line → Bool
 is_line (Line.Do actor lane act) = true

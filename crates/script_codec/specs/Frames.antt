@@ -1,6 +1,5 @@
 -- A script in a frame: the number of its bytes in four bytes, the script, and what is behind it.
-use Rattle.std.specs.Prelude.{ℕ, ◌+◌, nat_lt, List, length, take, drop, if◌then◌else◌}
-use Rattle.std.specs.Int.{w32}
+use Rattle.std.specs.{Prelude.ℕ, Prelude.◌+◌, Prelude.nat_lt, Prelude.List, Prelude.length, Prelude.take, Prelude.drop, Prelude.if◌then◌else◌, Int.w32}
 use Rattle.cci_codec.specs.dcd_base.specs.Layouts.{number_at}
 
 -- how many bytes there have to be

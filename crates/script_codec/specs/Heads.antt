@@ -2,14 +2,9 @@
 use Rattle.std.specs.Prelude.{ℕ, ◌*◌, ◌==◌, List, Option, Some, None, Result, Ok, Err, if◌then◌else◌, bit_and}
 use Rattle.std.specs.Int.{w8, w16, w32, w64}
 use lib.Pointwise.{pointwise}
-use Rattle.region_config.specs.declared.region_spec.RegionSpec.{RegionSpec}
-use Rattle.region_config.specs.declared.faults.ConfigFault.{ConfigFault}
-use Rattle.region_config.specs.Configurations.{Configuration}
-use Rattle.region_config.specs.Setups.{bad_count, config_fault}
-use Rattle.script_codec.specs.declared.heads.Head.{Head}
-use Rattle.script_codec.specs.declared.faults.ScriptFault.{ScriptFault}
-use Rattle.script_codec.specs.Scripts.{magic, bad_version, bad_lanes}
-use Rattle.script_codec.specs.Fields.{◌>>=◌, skip, part, number_from, many_from}
+use Rattle.region_config.specs.{declared.region_spec.RegionSpec.RegionSpec, declared.faults.ConfigFault.ConfigFault, Configurations.Configuration, Setups.bad_count, Setups.config_fault}
+use Rattle.script_codec.specs.{Fields.◌>>=◌, Fields.skip, Fields.part, Fields.number_from, Fields.many_from, Scripts.magic, Scripts.bad_version, Scripts.bad_lanes}
+use Rattle.script_codec.specs.declared.{faults.ScriptFault.ScriptFault, heads.Head.Head}
 
 -- the place behind the four bytes that every script begins with
 unfoldable pub magic_from : List ℕ → ℕ → Result ℕ ScriptFault

@@ -1,14 +1,7 @@
 -- Reading a script line by line: its head, what is still to come, and what the next line takes of it.
 use Rattle.std.specs.Prelude.{◌≡◌, ◌≢◌, ℕ, ◌+◌, ◌-◌, ◌<◌, ◌≤◌, IsTrue, Bool, true, false, List, [], ◌∷◌, length, Option, Some, None, Result, Ok, Err}
-use Rattle.script_codec.specs.declared.heads.Head.{Head}
-use Rattle.script_codec.specs.declared.script_line.Line.{Line}
-use Rattle.script_codec.specs.declared.scripts.Script.{Script}
-use Rattle.script_codec.specs.declared.faults.ScriptFault.{ScriptFault}
-use Rattle.script_codec.specs.Fields.{◌>>=◌}
-use Rattle.script_codec.specs.Lines.{lines_from}
-use Rattle.script_codec.specs.Reading.{head_in, most_lines, script_in}
-use Rattle.script_codec.specs.Scripts.{is_sound_line, ReadsScript}
-use Rattle.script_codec.specs.Unread.{Unread}
+use Rattle.script_codec.specs.{Fields.◌>>=◌, Lines.lines_from, Reading.head_in, Reading.most_lines, Reading.script_in, Scripts.is_sound_line, Scripts.ReadsScript, Unread.Unread}
+use Rattle.script_codec.specs.declared.{faults.ScriptFault.ScriptFault, heads.Head.Head, script_line.Line.Line, scripts.Script.Script}
 
 -- the line, then those that come behind it
 abbrev pub line_then : Line → Result (List Line) ScriptFault → Result (List Line) ScriptFault

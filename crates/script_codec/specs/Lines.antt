@@ -1,15 +1,10 @@
 -- How a line of a script is read.
 use Rattle.std.specs.Prelude.{ℕ, zero, suc, ◌/◌, ◌%◌, Bool, ◌&&◌, ◌==◌, nat_lt, List, [], ◌∷◌, length, Option, Some, None, Result, Ok, Err, if◌then◌else◌}
 use Rattle.std.specs.Int.{w8, w16, w64}
-use Rattle.cci_codec.specs.dcd_base.specs.declared.ids.HostId.{HostId}
-use Rattle.cci_codec.specs.dcd_base.specs.declared.steps.Actor.{Actor}
-use Rattle.cci_codec.specs.declared.messages.Request.{Request}
-use Rattle.cci_codec.specs.declared.faults.MessageFault.{MessageFault}
-use Rattle.cci_codec.specs.Messages.{message_fault, request_in}
+use Rattle.cci_codec.specs.{Messages.message_fault, Messages.request_in, dcd_base.specs.declared.ids.HostId.HostId, dcd_base.specs.declared.steps.Actor.Actor}
+use Rattle.cci_codec.specs.declared.{faults.MessageFault.MessageFault, messages.Request.Request}
 use Rattle.journal_core.specs.declared.acts.Act.{Act}
-use Rattle.script_codec.specs.declared.script_line.Line.{Line}
-use Rattle.script_codec.specs.declared.faults.ScriptFault.{ScriptFault}
-use Rattle.script_codec.specs.Fields.{◌>>=◌, skip, part, number_from}
+use Rattle.script_codec.specs.{declared.script_line.Line.Line, declared.faults.ScriptFault.ScriptFault, Fields.◌>>=◌, Fields.skip, Fields.part, Fields.number_from}
 
 -- the low four bits of an actor byte name a host, the others its lane
 abbrev pub is_host_byte : ℕ → ℕ → ℕ → Bool

@@ -1,11 +1,6 @@
 -- What reading a script answers: the script, or the first fault.
 use Rattle.std.specs.Prelude.{◌≡◌, ◌≢◌, ℕ, nat_lt, List, length, Option, Some, None, Result, Ok, Err, if◌then◌else◌}
-use Rattle.script_codec.specs.declared.heads.Head.{Head}
-use Rattle.script_codec.specs.declared.scripts.Script.{Script}
-use Rattle.script_codec.specs.declared.faults.ScriptFault.{ScriptFault}
-use Rattle.script_codec.specs.Fields.{◌>>=◌}
-use Rattle.script_codec.specs.Heads.{head_from}
-use Rattle.script_codec.specs.Lines.{lines_from}
+use Rattle.script_codec.specs.{declared.heads.Head.Head, declared.scripts.Script.Script, declared.faults.ScriptFault.ScriptFault, Fields.◌>>=◌, Heads.head_from, Lines.lines_from}
 
 -- how many bytes and how many lines a script may have
 abbrev pub most_bytes : ℕ

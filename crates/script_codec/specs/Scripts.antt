@@ -1,17 +1,11 @@
 -- The bytes of a script, as a layout.
-use Rattle.cci_codec.specs.dcd_base.specs.Layouts.{Reads, Field, Number, Masked, Raw, Reserved}
-use Rattle.cci_codec.specs.dcd_base.specs.Words.{flag_of}
-use Rattle.journal_core.specs.Entries.{fits}
-use Rattle.std.specs.List.{list_all}
-use Rattle.std.specs.Prelude.{◌≡◌, ◌≤◌, IsTrue, true, ℕ, ◌+◌, ◌*◌, Bool, ◌&&◌, ◌||◌, not, ◌==◌, nat_lt, List, [], ◌∷◌, ◌++◌, length, map, flat_map, None, if◌then◌else◌}
-use Rattle.std.specs.Int.{w8, w16, w32, w64}
-use Rattle.cci_codec.specs.dcd_base.specs.declared.steps.Actor.{Actor}
-use Rattle.region_config.specs.declared.region_spec.RegionSpec.{RegionSpec}
-use Rattle.journal_core.specs.declared.acts.Act.{Act}
-use Rattle.script_codec.specs.declared.script_line.Line.{Line}
-use Rattle.script_codec.specs.declared.scripts.Script.{Script}
 use Rattle.cci_codec.specs.Messages.{request_fields}
-use Rattle.region_config.specs.Setups.{config_fault}
+use Rattle.cci_codec.specs.dcd_base.specs.{Layouts.Reads, Layouts.Field, Layouts.Number, Layouts.Masked, Layouts.Raw, Layouts.Reserved, Words.flag_of, declared.steps.Actor.Actor}
+use Rattle.journal_core.specs.{Entries.fits, declared.acts.Act.Act}
+use Rattle.std.specs.{List.list_all, Int.w8, Int.w16, Int.w32, Int.w64}
+use Rattle.std.specs.Prelude.{◌≡◌, ◌≤◌, IsTrue, true, ℕ, ◌+◌, ◌*◌, Bool, ◌&&◌, ◌||◌, not, ◌==◌, nat_lt, List, [], ◌∷◌, ◌++◌, length, map, flat_map, None, if◌then◌else◌}
+use Rattle.region_config.specs.{declared.region_spec.RegionSpec.RegionSpec, Setups.config_fault}
+use Rattle.script_codec.specs.declared.{script_line.Line.Line, scripts.Script.Script}
 
 abbrev pub magic : List ℕ
 magic = 0x44 ∷ 0x43 ∷ 0x44 ∷ 0x53 ∷ []

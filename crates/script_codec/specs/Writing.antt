@@ -3,9 +3,7 @@ use Rattle.std.specs.Prelude.{◌≡◌, ◌≤◌, ℕ, true, Bool, IsTrue, ◌
 use Rattle.std.specs.List.{list_all, AllByRecursion}
 use Rattle.cci_codec.specs.dcd_base.specs.Layouts.{Field, FitsField, spelling, Writes}
 use Rattle.journal_core.specs.declared.acts.Act.{Act}
-use Rattle.script_codec.specs.declared.script_line.Line.{Line}
-use Rattle.script_codec.specs.declared.scripts.Script.{Script}
-use Rattle.script_codec.specs.Scripts.{script_fields, actor_byte, IsScript}
+use Rattle.script_codec.specs.{declared.script_line.Line.Line, declared.scripts.Script.Script, Scripts.script_fields, Scripts.actor_byte, Scripts.IsScript}
 
 -- The spelling of these fields was put at the end, and each of them has one.
 pub record AppendsLines (old new : List ℕ) (fields : List Field) : Type 0 where

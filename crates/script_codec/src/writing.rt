@@ -186,7 +186,12 @@ fn write_request(request: &Request, out: &mut Bytes) -> Result<(), NoMemory>
     encode_request(request, out)
 }
 
-fn write_command(actor: &Actor, lane: u8, request: &Request, out: &mut Bytes) -> Result<(), NoMemory>
+fn write_command(
+    actor: &Actor,
+    lane: u8,
+    request: &Request,
+    out: &mut Bytes,
+) -> Result<(), NoMemory>
     requires byte { actor_byte actor.now lane < 256 }
     requires short { length request.now.payload ≤ 65523 }
     ensures { OnOk result (AppendsLines out.old out.new (act_fields actor.now lane (Act.Command request.now))) }
@@ -206,7 +211,13 @@ fn write_load(actor: &Actor, lane: u8, dpa: u64, out: &mut Bytes) -> Result<(), 
     write_u64(dpa, out)
 }
 
-fn write_store(actor: &Actor, lane: u8, dpa: u64, value: u64, out: &mut Bytes) -> Result<(), NoMemory>
+fn write_store(
+    actor: &Actor,
+    lane: u8,
+    dpa: u64,
+    value: u64,
+    out: &mut Bytes,
+) -> Result<(), NoMemory>
     requires { actor_byte actor.now lane < 256 }
     ensures { OnOk result (AppendsLines out.old out.new (act_fields actor.now lane (Act.Store dpa value))) }
 {

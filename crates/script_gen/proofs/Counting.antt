@@ -1,15 +1,9 @@
 -- How many lines and entries the script has.
 use Rattle.std.proofs.Common.{◌≡◌, ℕ, zero, suc, ◌+◌, ◌*◌, ◌<◌, true, cond, List, [], ◌++◌, length, refl, ap, ◌∙◌, arith, length-append}
-use Rattle.std.specs.Prelude.{count_by, flat_map, nat_lt}
-use Rattle.std.specs.List.{range_with_len}
-use Rattle.std.proofs.lemmas.Bool.{lt-ltb}
-use Rattle.std.proofs.lemmas.List.Sums.{sum_by-append}
-use Rattle.script_codec.specs.declared.script_line.Line.{Line}
-use Rattle.script_codec.specs.Covering.{is_line}
-use Rattle.script_gen.specs.Drawing.{draws_after, use_by, round_by}
+use Rattle.std.{specs.Prelude.count_by, specs.Prelude.flat_map, specs.Prelude.nat_lt, specs.List.range_with_len, proofs.lemmas.Bool.lt-ltb, proofs.lemmas.List.Sums.sum_by-append}
+use Rattle.script_codec.specs.{declared.script_line.Line.Line, Covering.is_line}
+use Rattle.script_gen.{specs.Drawing.draws_after, specs.Drawing.use_by, specs.Drawing.round_by, proofs.Made.lines_made, proofs.Stepping.flat_map_more}
 use Rattle.script_gen.specs.Generated.{access_lines, take_line, clear_line, offer_line, give_back_line, offers_lines, give_back_lines, end_lines, generated_lines}
-use Rattle.script_gen.proofs.Made.{lines_made}
-use Rattle.script_gen.proofs.Stepping.{flat_map_more}
 
 -- A number that each list has, and that adds up.
 pub record Adds (size : List Line → ℕ) : Type 0 where

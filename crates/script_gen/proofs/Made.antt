@@ -1,11 +1,10 @@
 -- The lines that are made draw by draw are those of the definition.
 use Rattle.std.proofs.Common.{◌≡◌, ℕ, zero, suc, ◌+◌, ◌-◌, ◌*◌, ◌<◌, ◌≤◌, List, ◌∷◌, ◌++◌, take, drop, refl, sym, ap, ◌∙◌, arith}
-use Rattle.std.specs.Prelude.{flat_map}
-use Rattle.std.specs.List.{range_with_len}
+use Rattle.std.specs.{Prelude.flat_map, List.range_with_len}
 use Rattle.script_codec.specs.declared.script_line.Line.{Line}
+use Rattle.script_gen.proofs.Stepping.{after_parts}
 use Rattle.script_gen.specs.Drawing.{draws_after, access_by, accesses_by, use_by, round_by, rounds_by}
 use Rattle.script_gen.specs.Generated.{next_draw, draws, accesses, use_lines, take_line, clear_line, offers_lines, end_lines, round_lines, generated_lines}
-use Rattle.script_gen.proofs.Stepping.{after_parts}
 
 -- ---- a part of the draws
 take_draws : (n r total x : ℕ) → total ≡ n + r → take n (draws x total) ≡ draws x n

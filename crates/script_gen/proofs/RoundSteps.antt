@@ -1,14 +1,9 @@
 -- The script round by round.
 use Rattle.std.proofs.Common.{◌≡◌, ℕ, zero, suc, ◌+◌, ◌-◌, ◌*◌, ◌<◌, List, [], ◌++◌, refl, sym, ap, subst, ◌∙◌, arith}
-use Rattle.std.specs.Prelude.{IsTrue, flat_map}
-use Rattle.std.specs.List.{list_all, range_with_len}
-use Rattle.script_codec.specs.Scripts.{is_sound_line}
-use Rattle.script_codec.specs.declared.script_line.Line.{Line}
-use Rattle.script_gen.specs.Drawing.{IsRound, draws_after, round_by, rounds_from}
-use Rattle.script_gen.specs.Generated.{generated_lines}
-use Rattle.script_gen.proofs.Made.{lines_made}
-use Rattle.script_gen.proofs.Sound.{sound_round}
-use Rattle.script_gen.proofs.Stepping.{after_parts}
+use Rattle.std.specs.{Prelude.IsTrue, Prelude.flat_map, List.list_all, List.range_with_len}
+use Rattle.script_codec.specs.{Scripts.is_sound_line, declared.script_line.Line.Line}
+use Rattle.script_gen.proofs.{Made.lines_made, Sound.sound_round, Stepping.after_parts}
+use Rattle.script_gen.specs.{Drawing.IsRound, Drawing.draws_after, Drawing.round_by, Drawing.rounds_from, Generated.generated_lines}
 
 -- from the state before them on, they are those of the definition
 from_is : (x n k : ℕ) → rounds_from n k (draws_after x (128 * k)) ≡ flat_map (λ i. round_by i (draws_after x (128 * i))) (range_with_len k n)

@@ -1,21 +1,13 @@
 -- Each line of the script is an act of its actor and has a short spelling, so that the script can be written.
 use Rattle.std.proofs.Common.{◌≡◌, ℕ, zero, suc, ◌+◌, ◌*◌, ◌<◌, ◌≤◌, Bool, true, ◌&&◌, List, [], ◌∷◌, ◌++◌, length, inl, inr, refl, ap, ◌∙◌, arith, length-append}
-use Rattle.std.specs.Prelude.{flat_map, nat_le}
-use Rattle.std.specs.Int.{w8}
-use Rattle.std.proofs.lemmas.Bool.{cases_lt, leb-true, lt-ltb, le-ltb}
-use Rattle.std.proofs.lemmas.Grind.{flat_map-append}
-use Rattle.std.specs.List.{list_all, range_with_len}
-use Rattle.std.proofs.lemmas.List.Folds.{list_all-append}
+use Rattle.std.proofs.lemmas.{Bool.cases_lt, Bool.leb-true, Bool.lt-ltb, Bool.le-ltb, Grind.flat_map-append, List.Folds.list_all-append}
+use Rattle.std.specs.{Int.w8, List.list_all, List.range_with_len, Prelude.flat_map, Prelude.nat_le}
 use Rattle.dcd_base.specs.Layouts.{Field, Number, spell, spelling}
-use Rattle.script_codec.specs.declared.script_line.Line.{Line}
-use Rattle.script_codec.specs.Scripts.{script_head, is_sound_line, line_fields}
-use Rattle.script_codec.specs.Writing.{IsWritable, has_short_message, script_bytes}
-use Rattle.script_codec.proofs.Writable.{both_first, both_second}
+use Rattle.script_codec.{proofs.Writable.both_first, proofs.Writable.both_second, specs.Scripts.script_head, specs.Scripts.is_sound_line, specs.Scripts.line_fields}
+use Rattle.script_codec.specs.{Writing.IsWritable, Writing.has_short_message, Writing.script_bytes, declared.script_line.Line.Line}
+use Rattle.script_gen.proofs.{Configured.faultless, Counting.length_is, Made.lines_made}
 use Rattle.script_gen.specs.Drawing.{draws_after, access_by, accesses_by, use_by, uses_by, round_by}
 use Rattle.script_gen.specs.Generated.{access_lines, take_line, clear_line, offer_line, give_back_line, offers_lines, give_back_lines, end_lines, next_draw, generated, generated_lines}
-use Rattle.script_gen.proofs.Configured.{faultless}
-use Rattle.script_gen.proofs.Counting.{length_is}
-use Rattle.script_gen.proofs.Made.{lines_made}
 
 abbrev pub is_good : Line → Bool
 is_good line = (is_sound_line 4 1 line && has_short_message line) && nat_le (length (spelling (line_fields line))) 100

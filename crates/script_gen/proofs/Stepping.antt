@@ -1,11 +1,7 @@
 -- What a loop over numbers from 0 on has made so far, and the state of the generator.
 use Rattle.std.proofs.Common.{◌≡◌, ℕ, zero, suc, ◌+◌, ◌*◌, List, [], ◌∷◌, ◌++◌, map, refl, sym, ap, ◌∙◌, arith, append_assoc, append-nil, zero-add}
-use Rattle.std.specs.Prelude.{flat_map}
-use Rattle.std.specs.List.{range_with_len}
-use Rattle.std.proofs.lemmas.List.FromFn.{map-range_with_len_more}
-use Rattle.std.proofs.lemmas.Grind.{flat_map-append}
-use Rattle.script_gen.specs.Drawing.{draws_after}
-use Rattle.script_gen.specs.Generated.{next_draw}
+use Rattle.std.{specs.Prelude.flat_map, specs.List.range_with_len, proofs.lemmas.List.FromFn.map-range_with_len_more, proofs.lemmas.Grind.flat_map-append}
+use Rattle.script_gen.specs.{Drawing.draws_after, Generated.next_draw}
 
 -- one more number at the end of a range
 range_more : (a n : ℕ) (m : ℕ) → m ≡ n + 1 → range_with_len a m ≡ range_with_len a n ++ (a + n) ∷ []

@@ -1,8 +1,7 @@
 -- The same lines by the state of the generator before them.
 use Rattle.std.specs.Prelude.{◌≡◌, ℕ, zero, suc, ◌+◌, ◌*◌, IsTrue, List, [], ◌∷◌, ◌++◌, Option, Some, None, flat_map}
 use Rattle.std.specs.List.{list_all, range_with_len}
-use Rattle.script_codec.specs.declared.script_line.Line.{Line}
-use Rattle.script_codec.specs.Scripts.{is_sound_line}
+use Rattle.script_codec.specs.{declared.script_line.Line.Line, Scripts.is_sound_line}
 use Rattle.script_gen.specs.Generated.{next_draw, access_lines, take_line, clear_line, offers_lines, end_lines}
 
 -- the state after so many draws

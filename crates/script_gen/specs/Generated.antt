@@ -1,18 +1,12 @@
 -- The script of a seed: 256 rounds of four hosts that are given capacity, use it and give it back.
 use Rattle.std.specs.Prelude.{ℕ, zero, suc, ◌+◌, ◌*◌, ◌%◌, ◌^◌, true, false, nat_lt, List, [], ◌∷◌, ◌++◌, map, flat_map, take, drop, replicate, if◌then◌else◌}
 use Rattle.std.specs.List.{range_with_len}
-use Rattle.dcd_base.specs.declared.capacity.Extent.{Extent}
-use Rattle.dcd_base.specs.declared.steps.Actor.{Actor}
-use Rattle.host_payloads.specs.declared.requests.HostRequest.{HostRequest}
-use Rattle.fm_payloads.specs.declared.requests.FmRequest.{FmRequest}
+use Rattle.dcd_base.specs.{declared.capacity.Extent.Extent, declared.steps.Actor.Actor, Layouts.spelling, Words.zero_tag}
+use Rattle.host_payloads.specs.{declared.requests.HostRequest.HostRequest, HostPayloads.host_opcode, HostPayloads.host_fields}
+use Rattle.fm_payloads.specs.{declared.requests.FmRequest.FmRequest, ManagerPayloads.manager_opcode, ManagerPayloads.manager_fields}
 use Rattle.region_config.specs.Configurations.{Configuration}
 use Rattle.journal_core.specs.declared.acts.Act.{Act}
-use Rattle.script_codec.specs.declared.script_line.Line.{Line}
-use Rattle.script_codec.specs.declared.scripts.Script.{Script}
-use Rattle.dcd_base.specs.Layouts.{spelling}
-use Rattle.dcd_base.specs.Words.{zero_tag}
-use Rattle.host_payloads.specs.HostPayloads.{host_opcode, host_fields}
-use Rattle.fm_payloads.specs.ManagerPayloads.{manager_opcode, manager_fields}
+use Rattle.script_codec.specs.declared.{script_line.Line.Line, scripts.Script.Script}
 
 -- each draw is a step of this generator, beginning at the seed
 unfoldable pub next_draw : ℕ → ℕ

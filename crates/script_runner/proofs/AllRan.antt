@@ -3,29 +3,14 @@ use Rattle.std.proofs.Common.{◌≡◌, ℕ, ◌<◌, List, map, sym, ap, ◌�
 use mathlib.Core.Option.{some, some-injective}
 use lib.ListN.{get_elem?}
 use Rattle.dcd_base.specs.declared.steps.Actor.{Actor}
-use Rattle.device_plain.specs.device_rules.specs.Legal.{Exclusive, Legal}
-use Rattle.device_plain.specs.isolation_laws.specs.Solo.{Isolated}
-use Rattle.journal_core.specs.declared.acts.Act.{Act}
-use Rattle.journal_core.specs.declared.entries.Entry.{Entry}
-use Rattle.journal_core.specs.Merging.{calls_of, merged}
-use Rattle.journal_core.proofs.Splits.{all_from_places}
-use Rattle.region_config.specs.Configurations.{Configuration}
-use Rattle.region_config.specs.Soundness.{IsSound}
-use Rattle.shared_device.specs.ruled_cells.specs.Calls.{seats_of}
-use Rattle.shared_device.specs.ruled_cells.proofs.Places.{at_there}
-use Rattle.script_gen.specs.script_codec.specs.declared.script_line.Line.{Line}
-use Rattle.script_gen.specs.script_codec.specs.declared.scripts.Script.{Script}
-use Rattle.script_gen.specs.script_codec.specs.Covering.{Covers, pass_of}
-use Rattle.script_gen.specs.script_codec.specs.Scripts.{IsScript, is_sound_line}
-use Rattle.script_runner.specs.ThreadRuns.{HasDone, IsTakenApart, IsThreadRun}
-use Rattle.shared_device.specs.Closing.{AreAllPasses, IsClosed}
-use Rattle.shared_device.specs.Commanding.{actors_of}
-use Rattle.shared_device.specs.declared.pass.Pass.{Pass}
-use Rattle.shared_device.specs.declared.shared.Shared.{Shared}
-use Rattle.shared_device.specs.Passing.{pass_actor}
-use Rattle.workers.specs.Phases.{task_of, tasks}
-use Rattle.workers.specs.Served.{AllServed, passes_of}
-use Rattle.script_runner.proofs.LineActors.{line_actor}
+use Rattle.device_plain.specs.{device_rules.specs.Legal.Exclusive, device_rules.specs.Legal.Legal, isolation_laws.specs.Solo.Isolated}
+use Rattle.journal_core.{specs.declared.acts.Act.Act, specs.declared.entries.Entry.Entry, specs.Merging.calls_of, specs.Merging.merged, proofs.Splits.all_from_places}
+use Rattle.region_config.specs.{Configurations.Configuration, Soundness.IsSound}
+use Rattle.shared_device.specs.{Closing.AreAllPasses, Closing.IsClosed, Commanding.actors_of, Passing.pass_actor, declared.pass.Pass.Pass, declared.shared.Shared.Shared}
+use Rattle.shared_device.specs.ruled_cells.{proofs.Places.at_there, specs.Calls.seats_of}
+use Rattle.script_gen.specs.script_codec.specs.{declared.script_line.Line.Line, declared.scripts.Script.Script, Covering.Covers, Covering.pass_of, Scripts.IsScript, Scripts.is_sound_line}
+use Rattle.script_runner.{specs.ThreadRuns.HasDone, specs.ThreadRuns.IsTakenApart, specs.ThreadRuns.IsThreadRun, proofs.LineActors.line_actor}
+use Rattle.workers.specs.{Phases.task_of, Phases.tasks, Served.AllServed, Served.passes_of}
 
 module _ (s : Shared) (script : Script) (passes : List Pass) (done : HasDone s script passes) where
   pub are_all_passes : AreAllPasses s passes

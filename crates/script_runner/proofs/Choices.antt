@@ -1,8 +1,6 @@
 -- Words ask for one thing.
 use Rattle.std.proofs.Common.{◌≡◌, ℕ, List, Option, Some, None, refl, ap}
-use Rattle.script_runner.specs.declared.words.Choice.{Choice}
-use Rattle.script_runner.specs.Words.{IsChoice}
-use Rattle.script_runner.proofs.WordItems.{one_choice}
+use Rattle.script_runner.{specs.declared.words.Choice.Choice, specs.Words.IsChoice, proofs.WordItems.one_choice}
 
 pub one_answer : (words : List (List ℕ)) (found other : Option Choice) → IsChoice words found → IsChoice words other → other ≡ found
 one_answer words None None is too = refl

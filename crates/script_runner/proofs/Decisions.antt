@@ -1,21 +1,13 @@
 -- What is decided upon an input, or upon a seed.
 use Rattle.std.proofs.Common.{◌≡◌, ℕ, ◌<◌, ◌≤◌, List, Option, Some, None, Ok, Err, length, take, refl, sym, ap, subst, ◌∙◌, arith}
-use Rattle.std.proofs.lemmas.List.{length-take, take_all}
-use Rattle.std.proofs.lemmas.Option.{none-some, same_Some}
-use Rattle.std.specs.Prelude.{IfOk}
-use Rattle.std.specs.Option.{IfSome}
+use Rattle.std.{proofs.lemmas.List.length-take, proofs.lemmas.List.take_all, proofs.lemmas.Option.none-some, proofs.lemmas.Option.same_Some, specs.Option.IfSome, specs.Prelude.IfOk}
 use Rattle.std.specs.declared.result.Result.{Result}
 use Rattle.dcd_base.specs.declared.failures.NoMemory.{NoMemory}
 use Rattle.edge_io.specs.Meanings.{Decides}
 use Rattle.report.specs.Refusals.{refusal_line}
-use Rattle.script_gen.specs.script_codec.specs.declared.faults.ScriptFault.{ScriptFault}
-use Rattle.script_gen.specs.script_codec.specs.declared.scripts.Script.{Script}
-use Rattle.script_gen.specs.script_codec.specs.Reading.{fault_of, first_fault, most_bytes, script_in}
-use Rattle.script_gen.specs.script_codec.proofs.Beginnings.{too_long}
-use Rattle.script_runner.specs.declared.outcome.Printed.{Printed}
-use Rattle.script_runner.specs.declared.status.Status.{Status}
-use Rattle.script_runner.specs.declared.words.Choice.{Choice}
-use Rattle.script_runner.specs.declared.words.Mode.{Mode}
+use Rattle.script_gen.specs.script_codec.{proofs.Beginnings.too_long, specs.Reading.fault_of, specs.Reading.first_fault, specs.Reading.most_bytes, specs.Reading.script_in}
+use Rattle.script_gen.specs.script_codec.specs.declared.{faults.ScriptFault.ScriptFault, scripts.Script.Script}
+use Rattle.script_runner.specs.declared.{outcome.Printed.Printed, status.Status.Status, words.Choice.Choice, words.Mode.Mode}
 use Rattle.script_runner.specs.Planning.{IsFaultLine, IsPrintable, IsSoundFor, IsSummaryOf, IsTextOf, bytes_of, most_for, most_read, runner}
 
 abbrev Decided : Type 0

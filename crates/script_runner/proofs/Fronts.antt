@@ -1,28 +1,14 @@
 -- One more line of a serial run, and the whole of it.
 use Rattle.std.proofs.Common.{◌≡◌, Bool, true, ◌&&◌, ℕ, ◌+◌, ◌-◌, ◌<◌, ◌≤◌, cond, List, [], ◌∷◌, ◌++◌, length, take, count_by, Some, Err, refl, sym, ap, subst, ◌∙◌, append-nil, arith, zero-add}
-use Rattle.std.specs.Prelude.{slice_get}
-use Rattle.std.specs.List.{AllByRecursion, list_all}
-use Rattle.std.proofs.Common.{get_or}
-use Rattle.std.proofs.lemmas.Bool.{and_parts}
-use Rattle.std.proofs.lemmas.List.{append_assoc, length-append, length_push, take_all, take_more}
-use Rattle.std.proofs.lemmas.List.Folds.{list_all-append}
-use Rattle.std.proofs.Math.Seq.{get_or-append_seam}
-use Rattle.std.proofs.lemmas.List.Elements.{All-push}
-use Rattle.std.proofs.lemmas.Option.{slice_get_read}
-use Rattle.std.proofs.lemmas.List.Quantifiers.{all_pairs_push}
-use Rattle.std.proofs.lemmas.List.Sums.{sum_by-append}
+use Rattle.std.proofs.{Common.get_or, Math.Seq.get_or-append_seam, lemmas.Bool.and_parts}
+use Rattle.std.proofs.lemmas.List.{append_assoc, length-append, length_push, take_all, take_more, Elements.All-push, Folds.list_all-append, Quantifiers.all_pairs_push, Sums.sum_by-append}
+use Rattle.std.{proofs.lemmas.Option.slice_get_read, specs.List.AllByRecursion, specs.List.list_all, specs.Prelude.slice_get}
 use Rattle.dcd_base.specs.declared.steps.Actor.{Actor}
 use Rattle.region_config.specs.Configurations.{Configuration}
-use Rattle.journal_core.specs.declared.acts.Act.{Act}
-use Rattle.journal_core.specs.declared.entries.Entry.{Entry}
-use Rattle.script_gen.specs.script_codec.specs.declared.script_line.Line.{Line}
-use Rattle.script_gen.specs.script_codec.specs.declared.scripts.Script.{Script}
-use Rattle.script_gen.specs.script_codec.specs.declared.heads.Head.{Head}
-use Rattle.script_gen.specs.script_codec.specs.declared.faults.ScriptFault.{ScriptFault}
+use Rattle.journal_core.specs.declared.{acts.Act.Act, entries.Entry.Entry}
 use Rattle.script_gen.specs.script_codec.specs.Covering.{Covers, IsOfLine, is_line, pass_of}
-use Rattle.script_gen.specs.script_codec.specs.LineByLine.{Begins, FailsInHead, head_then, with_head}
-use Rattle.script_gen.specs.script_codec.specs.Reading.{fault_of, first_fault}
-use Rattle.script_gen.specs.script_codec.specs.Unread.{Unread}
+use Rattle.script_gen.specs.script_codec.specs.{LineByLine.Begins, LineByLine.FailsInHead, LineByLine.head_then, LineByLine.with_head, Reading.fault_of, Reading.first_fault, Unread.Unread}
+use Rattle.script_gen.specs.script_codec.specs.declared.{faults.ScriptFault.ScriptFault, heads.Head.Head, script_line.Line.Line, scripts.Script.Script}
 use Rattle.script_runner.specs.Fronts.{AddsEntry, CoversFront, RanAll, RanLines, RanRest, RanScript, RunsLine, RunsLines}
 
 all_push : {X : Type 0} (P : X → Type 0) (xs : List X) (x : X) → AllByRecursion P xs → P x → AllByRecursion P (xs ++ x ∷ [])

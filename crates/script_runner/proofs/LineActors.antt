@@ -1,25 +1,15 @@
 -- The pass that does a line has the line's actor.
 use Rattle.std.proofs.Common.{◌≡◌, ℕ, zero, suc, ◌+◌, ◌*◌, ◌<◌, List, [], ◌∷◌, ◌++◌, length, refl, ap, ◌∙◌, zero-add, append_assoc, arith, IsTrue}
-use Rattle.std.specs.Prelude.{false, flat_map, nat_lt, replicate}
-use Rattle.std.specs.List.{range_with_len}
-use Rattle.std.proofs.Math.Nat.{suc-mul}
-use Rattle.std.proofs.lemmas.Bool.{and_parts, both_ways, ltb-true}
-use Rattle.std.proofs.lemmas.List.{length-append, length-replicate}
-use Rattle.std.proofs.lemmas.List.Concat.{flat_map-cons}
-use Rattle.std.proofs.lemmas.List.FromFn.{length-range_with_len}
+use Rattle.std.proofs.{Math.Nat.suc-mul, lemmas.Bool.and_parts, lemmas.Bool.both_ways, lemmas.Bool.ltb-true, lemmas.List.length-append, lemmas.List.length-replicate, lemmas.List.Concat.flat_map-cons}
+use Rattle.std.{proofs.lemmas.List.FromFn.length-range_with_len, specs.List.range_with_len, specs.Prelude.false, specs.Prelude.flat_map, specs.Prelude.nat_lt, specs.Prelude.replicate}
 use mathlib.Core.Option.{some}
 use lib.ListN.{get_elem?}
 use Rattle.atomic_table.proofs.Lists.{at_longer}
 use Rattle.dcd_base.specs.declared.steps.Actor.{Actor}
-use Rattle.journal_core.specs.declared.acts.Act.{Act}
-use Rattle.journal_core.specs.Entries.{fits}
-use Rattle.region_config.specs.Configurations.{Configuration}
-use Rattle.region_config.specs.Granules.{hosts_of}
-use Rattle.shared_device.specs.ruled_cells.proofs.Places.{replicate_at}
-use Rattle.script_gen.specs.script_codec.specs.declared.script_line.Line.{Line}
-use Rattle.script_gen.specs.script_codec.specs.Covering.{pass_of}
-use Rattle.script_gen.specs.script_codec.specs.Scripts.{is_sound_line}
-use Rattle.shared_device.specs.Commanding.{actors_of}
+use Rattle.journal_core.specs.{declared.acts.Act.Act, Entries.fits}
+use Rattle.region_config.specs.{Configurations.Configuration, Granules.hosts_of}
+use Rattle.shared_device.specs.{ruled_cells.proofs.Places.replicate_at, Commanding.actors_of}
+use Rattle.script_gen.specs.script_codec.specs.{declared.script_line.Line.Line, Covering.pass_of, Scripts.is_sound_line}
 
 -- the lanes of each of these hosts
 abbrev lanes_of : ℕ → List ℕ → List Actor

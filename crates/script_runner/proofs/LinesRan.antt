@@ -1,18 +1,12 @@
 -- New passes that served all lines have run them.
 use Rattle.std.proofs.Common.{◌≡◌, ℕ, zero, suc, ◌+◌, List, [], ◌∷◌, ◌++◌, length, map, take, sym, ap, ◌∙◌, subst, refl, zero-add, arith}
-use Rattle.std.proofs.Math.Seq.{take-append_seam}
-use Rattle.std.proofs.lemmas.List.{append-nil}
+use Rattle.std.proofs.{Math.Seq.take-append_seam, lemmas.List.append-nil}
 use mathlib.Core.Option.{some, some-injective, some-ne-none}
 use lib.ListN.{get_elem?}
 use Rattle.script_gen.specs.script_codec.specs.declared.script_line.Line.{Line}
-use Rattle.script_runner.specs.ScriptPasses.{AreNewPasses, HasRun, HaveRun}
-use Rattle.script_runner.specs.SharedPasses.{shared_reads}
-use Rattle.shared_device.specs.Commanding.{actors_of}
-use Rattle.shared_device.specs.declared.pass.Pass.{Pass}
-use Rattle.shared_device.specs.declared.shared.Shared.{Shared}
-use Rattle.shared_device.specs.Passing.{IsNewPass}
-use Rattle.workers.specs.Phases.{phase, task_of}
-use Rattle.workers.specs.Serving.{EachPair, EachServed, HasServed}
+use Rattle.script_runner.specs.{ScriptPasses.AreNewPasses, ScriptPasses.HasRun, ScriptPasses.HaveRun, SharedPasses.shared_reads}
+use Rattle.shared_device.specs.{Commanding.actors_of, declared.pass.Pass.Pass, declared.shared.Shared.Shared, Passing.IsNewPass}
+use Rattle.workers.specs.{Phases.phase, Phases.task_of, Serving.EachPair, Serving.EachServed, Serving.HasServed}
 
 -- what was written into all of a list is what it has then
 pub front_taken : {A : Type 0} (n : ℕ) (xs ys : List A) → length xs ≡ n → take n (xs ++ ys) ≡ xs

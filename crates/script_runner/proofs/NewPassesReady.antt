@@ -2,21 +2,11 @@
 use Rattle.std.proofs.Common.{◌≡◌, ℕ, suc, ◌+◌, ◌≤◌, ◌==◌, Bool, true, false, List, [], ◌∷◌, length, if◌then◌else◌, sym, ap, ◌∙◌, subst, refl, arith}
 use mathlib.Core.Option.{some, some-injective}
 use lib.ListN.{get_elem?}
-use Rattle.script_gen.specs.script_codec.specs.declared.script_line.Line.{Line}
-use Rattle.script_gen.specs.script_codec.specs.Covering.{pass_of}
-use Rattle.script_runner.specs.ScriptPasses.{AreNewPasses}
-use Rattle.script_runner.specs.SharedPasses.{shared_reads}
-use Rattle.shared_device.specs.Commanding.{actors_of}
-use Rattle.shared_device.specs.declared.pass.Pass.{Pass}
-use Rattle.shared_device.specs.declared.shared.Shared.{Shared}
-use Rattle.shared_device.specs.Passing.{IsNewPass, pass_actor, pass_calls}
-use Rattle.std.specs.Prelude.{IfOk}
-use Rattle.std.specs.declared.result.Result.{Result}
-use Rattle.std.specs.declared.result.Result.TheVariants.{Ok, Err}
-use Rattle.workers.specs.Handling.{HandlerReads}
-use Rattle.workers.specs.Phases.{Phase, phase, tasks}
-use Rattle.workers.specs.Serving.{EachReady, IsReady}
-use Rattle.script_runner.proofs.LineActors.{line_actor}
+use Rattle.script_gen.specs.script_codec.specs.{declared.script_line.Line.Line, Covering.pass_of}
+use Rattle.script_runner.{specs.ScriptPasses.AreNewPasses, specs.SharedPasses.shared_reads, proofs.LineActors.line_actor}
+use Rattle.shared_device.specs.{Commanding.actors_of, declared.pass.Pass.Pass, declared.shared.Shared.Shared, Passing.IsNewPass, Passing.pass_actor, Passing.pass_calls}
+use Rattle.std.specs.{Prelude.IfOk, declared.result.Result.Result, declared.result.Result.TheVariants.Ok, declared.result.Result.TheVariants.Err}
+use Rattle.workers.specs.{Handling.HandlerReads, Phases.Phase, Phases.phase, Phases.tasks, Serving.EachReady, Serving.IsReady}
 
 -- what follows from two facts of what is answered
 pub both_ok : {A E : Type 0} {P Q S : A → Type 0} (r : Result A E) → ((a : A) → P a → Q a → S a) → IfOk r P → IfOk r Q → IfOk r S

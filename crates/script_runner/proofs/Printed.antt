@@ -1,20 +1,12 @@
 -- The text of a run of the script that the input is, and the summary of a generated one.
-use Rattle.std.proofs.Common.{◌≡◌, ℕ, List, ap, subst}
+use Rattle.std.{proofs.Common.◌≡◌, proofs.Common.ℕ, proofs.Common.List, proofs.Common.ap, proofs.Common.subst, specs.Prelude.◌<◌, specs.Prelude.AllPairs}
 use Rattle.region_config.specs.Configurations.{Configuration}
-use Rattle.journal_core.specs.declared.entries.Entry.{Entry}
-use Rattle.journal_core.specs.Merging.{merged}
-use Rattle.device_plain.specs.device_rules.specs.Legal.{Exclusive, Legal}
-use Rattle.device_plain.specs.isolation_laws.specs.Solo.{Isolated}
+use Rattle.journal_core.specs.{declared.entries.Entry.Entry, Merging.merged}
+use Rattle.device_plain.specs.{device_rules.specs.Legal.Exclusive, device_rules.specs.Legal.Legal, isolation_laws.specs.Solo.Isolated}
 use Rattle.report.specs.Texts.{summary, text}
-use Rattle.script_gen.specs.script_codec.specs.Covering.{Covers}
-use Rattle.script_gen.specs.script_codec.specs.declared.scripts.Script.{Script}
-use Rattle.script_gen.specs.Generated.{generated}
+use Rattle.script_gen.specs.{script_codec.specs.Covering.Covers, script_codec.specs.declared.scripts.Script.Script, Generated.generated}
+use Rattle.script_runner.specs.{Fronts.RanAll, Fronts.RanScript, Planning.IsSummaryOf, Planning.IsTextOf, Running.IsLawful, Running.IsScriptRun, Threads.RanInThreads, Threads.RanInput}
 use Rattle.script_runner.specs.declared.words.Mode.{Mode}
-use Rattle.script_runner.specs.Fronts.{RanAll, RanScript}
-use Rattle.script_runner.specs.Planning.{IsSummaryOf, IsTextOf}
-use Rattle.script_runner.specs.Running.{IsLawful, IsScriptRun}
-use Rattle.script_runner.specs.Threads.{RanInThreads, RanInput}
-use Rattle.std.specs.Prelude.{◌<◌, AllPairs}
 
 -- ---- on the serial device
 

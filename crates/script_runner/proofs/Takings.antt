@@ -1,19 +1,13 @@
 -- What a run has taken of its source.
 use Rattle.std.proofs.Common.{◌≡◌, ℕ, List, [], Option, Some, None, refl, sym, ap, subst, ◌∙◌, inl, inr, arith}
-use Rattle.std.proofs.lemmas.Option.{none-some}
-use Rattle.std.specs.Prelude.{◌⊎◌, String}
+use Rattle.std.{proofs.lemmas.Option.none-some, specs.Prelude.◌⊎◌, specs.Prelude.String}
 use Rattle.dcd_base.specs.Streams.{IsAtEnd, with_front}
-use Rattle.edge_io.specs.ReadEnds.{TakesAll, TakesAtMost}
-use Rattle.edge_io.specs.Words.{words_of}
+use Rattle.edge_io.specs.{ReadEnds.TakesAll, ReadEnds.TakesAtMost, Words.words_of}
 use Rattle.edge_io.specs.Runs.{AsksToRead, EndsAs, IsRead, IsToWrite, IsWritten, Ran, ReadsFront, Seen, seen_of}
 use Rattle.script_gen.specs.script_codec.specs.Reading.{most_bytes}
-use Rattle.script_runner.specs.declared.status.Status.{Status}
-use Rattle.script_runner.specs.declared.words.Choice.{Choice}
+use Rattle.script_runner.{proofs.WordItems.one_choice, specs.Planning.IsAskedText, specs.Planning.IsTextOf, specs.Planning.most_for, specs.Planning.most_read, specs.Planning.runner}
+use Rattle.script_runner.specs.{Statuses.OnDone, Statuses.status_end, Words.Accepts, Words.AskForSource, Words.IsChoice, declared.status.Status.Status, declared.words.Choice.Choice}
 use Rattle.script_runner.specs.declared.words.Mode.{Mode}
-use Rattle.script_runner.specs.Planning.{IsAskedText, IsTextOf, most_for, most_read, runner}
-use Rattle.script_runner.specs.Statuses.{OnDone, status_end}
-use Rattle.script_runner.specs.Words.{Accepts, AskForSource, IsChoice}
-use Rattle.script_runner.proofs.WordItems.{one_choice}
 
 still : (left : Option (List ℕ)) → left ≡ with_front [] left
 still None = refl

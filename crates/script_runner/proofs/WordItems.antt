@@ -1,17 +1,11 @@
 -- What words ask for is what is looked at in them.
 use Rattle.std.proofs.Common.{◌≡◌, ℕ, Bool, true, false, List, [], ◌∷◌, ◌++◌, length, take, drop, Option, Some, None, refl, sym, ap, subst, ◌∙◌, inl, inr, arith, append-nil, length-append}
-use Rattle.std.specs.Prelude.{codes, if◌then◌else◌, ◌⊎◌}
-use Rattle.std.specs.Option.{IfSome}
-use Rattle.std.specs.Cmp.Lexicographic.{same_text}
-use Rattle.std.proofs.Math.Seq.{drop-append_seam, take-append_seam}
-use Rattle.std.proofs.lemmas.Cmp.{nat_list_eq_equiv}
-use Rattle.std.proofs.lemmas.List.{take-append-drop}
-use Rattle.edge_io.specs.Words.{is_number, number_in}
-use Rattle.edge_io.proofs.WordNumbers.{is_a_number, number_is}
+use Rattle.std.{proofs.Math.Seq.drop-append_seam, proofs.Math.Seq.take-append_seam, proofs.lemmas.Cmp.nat_list_eq_equiv, proofs.lemmas.List.take-append-drop, specs.Cmp.Lexicographic.same_text}
+use Rattle.std.specs.{Option.IfSome, Prelude.codes, Prelude.if◌then◌else◌, Prelude.◌⊎◌}
+use Rattle.edge_io.{specs.Words.is_number, specs.Words.number_in, proofs.WordNumbers.is_a_number, proofs.WordNumbers.number_is}
 use Rattle.script_runner.specs.ItemByItem.{Found, after_mode, after_seed, behind_mode, behind_seed, choice_moded, choice_of, choice_seeded, item_in_front, joined_in_front, mode_found, mode_in_front, mode_named, same_word, seed_found, seed_in_front, with_rest, without_mode}
 use Rattle.script_runner.specs.Words.{Accepts, AreGenWords, AreModeWords, IsChoice, IsGenItem, IsItem, IsModeItem, mode_name, most_digits}
-use Rattle.script_runner.specs.declared.words.Choice.{Choice}
-use Rattle.script_runner.specs.declared.words.Mode.{Mode}
+use Rattle.script_runner.specs.declared.words.{Choice.Choice, Mode.Mode}
 
 abbrev Words : Type 0
 Words = List (List ℕ)

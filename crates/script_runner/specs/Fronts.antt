@@ -3,13 +3,9 @@ use Rattle.std.specs.Prelude.{◌≡◌, ℕ, ◌<◌, ◌≤◌, List, [], ◌�
 use Rattle.std.specs.List.{AllByRecursion, All}
 use Rattle.dcd_base.specs.declared.steps.Actor.{Actor}
 use Rattle.region_config.specs.Configurations.{Configuration}
-use Rattle.journal_core.specs.declared.acts.Act.{Act}
-use Rattle.journal_core.specs.declared.entries.Entry.{Entry}
-use Rattle.script_gen.specs.script_codec.specs.declared.script_line.Line.{Line}
-use Rattle.script_gen.specs.script_codec.specs.declared.scripts.Script.{Script}
-use Rattle.script_gen.specs.script_codec.specs.declared.faults.ScriptFault.{ScriptFault}
-use Rattle.script_gen.specs.script_codec.specs.Covering.{Covers, IsOfLine, is_line, pass_of}
-use Rattle.script_gen.specs.script_codec.specs.Scripts.{ReadsScript}
+use Rattle.journal_core.specs.declared.{acts.Act.Act, entries.Entry.Entry}
+use Rattle.script_gen.specs.script_codec.specs.{Covering.Covers, Covering.IsOfLine, Covering.is_line, Covering.pass_of, Scripts.ReadsScript, declared.faults.ScriptFault.ScriptFault}
+use Rattle.script_gen.specs.script_codec.specs.declared.{script_line.Line.Line, scripts.Script.Script}
 
 -- One entry was added: that of the line with this number, actor, lane and act.
 pub record AddsEntry (hosts lanes number : ℕ) (its_actor : Actor) (lane : ℕ) (its_act : Act) (old new : List Entry) : Type 0 where

@@ -2,9 +2,7 @@
 use Rattle.std.specs.Prelude.{ℕ, Bool, nat_eq, List, [], ◌∷◌, length, take, drop, codes, Option, Some, None, if◌then◌else◌}
 use Rattle.std.specs.Cmp.Lexicographic.{pointwise}
 use Rattle.edge_io.specs.Words.{is_number, number_in}
-use Rattle.script_runner.specs.Words.{most_digits}
-use Rattle.script_runner.specs.declared.words.Choice.{Choice}
-use Rattle.script_runner.specs.declared.words.Mode.{Mode}
+use Rattle.script_runner.specs.{Words.most_digits, declared.words.Choice.Choice, declared.words.Mode.Mode}
 
 abbrev pub same_word : List ℕ → List ℕ → Bool
 same_word w v = pointwise nat_eq w v

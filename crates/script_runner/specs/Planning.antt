@@ -1,24 +1,13 @@
 -- What is to come of what the words ask for, and how it is printed.
 use Rattle.std.specs.Prelude.{◌≡◌, ◌≢◌, ℕ, List, take, Option, Some, None, Ok}
 use Rattle.dcd_base.specs.Streams.{Passes}
-use Rattle.journal_core.specs.declared.entries.Entry.{Entry}
-use Rattle.script_gen.specs.script_codec.specs.declared.faults.ScriptFault.{ScriptFault}
-use Rattle.script_gen.specs.script_codec.specs.declared.scripts.Script.{Script}
-use Rattle.script_gen.specs.script_codec.specs.Reading.{first_fault, most_bytes, script_in}
-use Rattle.script_gen.specs.script_codec.specs.Scripts.{ReadsScript}
-use Rattle.script_gen.specs.Generated.{generated}
-use Rattle.report.specs.Texts.{summary, text}
+use Rattle.journal_core.specs.{declared.entries.Entry.Entry, Merging.merged}
+use Rattle.script_gen.specs.{Generated.generated, script_codec.specs.Reading.first_fault, script_codec.specs.Reading.most_bytes, script_codec.specs.Reading.script_in}
+use Rattle.script_gen.specs.script_codec.specs.{Scripts.ReadsScript, declared.faults.ScriptFault.ScriptFault, declared.scripts.Script.Script}
+use Rattle.report.specs.{Texts.summary, Texts.text, Refusals.refusal_line, Refusals.usage_line}
 use Rattle.edge_io.specs.Meanings.{Meaning}
-use Rattle.journal_core.specs.Merging.{merged}
-use Rattle.report.specs.Refusals.{refusal_line, usage_line}
-use Rattle.script_runner.specs.declared.status.Status.{Status}
-use Rattle.script_runner.specs.declared.words.Choice.{Choice}
-use Rattle.script_runner.specs.declared.words.Mode.{Mode}
-use Rattle.script_runner.specs.Running.{IsScriptRun}
-use Rattle.script_runner.specs.declared.outcome.Printed.{Printed}
-use Rattle.script_runner.specs.Statuses.{status_end}
-use Rattle.script_runner.specs.Threads.{CanBeLent}
-use Rattle.script_runner.specs.Words.{IsChoice}
+use Rattle.script_runner.specs.{Running.IsScriptRun, Statuses.status_end, Threads.CanBeLent, Words.IsChoice, declared.outcome.Printed.Printed, declared.status.Status.Status}
+use Rattle.script_runner.specs.declared.words.{Choice.Choice, Mode.Mode}
 
 -- The input reads as a script, whatever its reserved bits, and the text is that of a run of it in this mode.
 pub record IsTextOf (mode : Mode) (input printed : List ℕ) : Type 0 where

@@ -1,12 +1,9 @@
 -- The journal that a run of a script makes.
 use Rattle.std.specs.Prelude.{◌<◌, List, AllPairs}
-use Rattle.journal_core.specs.declared.entries.Entry.{Entry}
+use Rattle.journal_core.specs.{declared.entries.Entry.Entry, Merging.Numbered}
 use Rattle.region_config.specs.Configurations.{Configuration}
-use Rattle.script_gen.specs.script_codec.specs.declared.scripts.Script.{Script}
-use Rattle.script_gen.specs.script_codec.specs.Covering.{Covers}
-use Rattle.journal_core.specs.Merging.{Numbered}
-use Rattle.device_plain.specs.isolation_laws.specs.Solo.{Isolated}
-use Rattle.device_plain.specs.device_rules.specs.Legal.{Exclusive, Legal}
+use Rattle.script_gen.specs.script_codec.specs.{declared.scripts.Script.Script, Covering.Covers}
+use Rattle.device_plain.specs.{isolation_laws.specs.Solo.Isolated, device_rules.specs.Legal.Exclusive, device_rules.specs.Legal.Legal}
 use Rattle.script_runner.specs.declared.words.Mode.{Mode}
 
 -- What every device keeps of its journal: it is legal, exclusive, numbered and isolated.

@@ -3,10 +3,8 @@ use Rattle.std.specs.Prelude.{◌≡◌, ℕ, List, map}
 use mathlib.Core.Option.{some}
 use lib.ListN.{get_elem?}
 use Rattle.script_gen.specs.script_codec.specs.declared.script_line.Line.{Line}
-use Rattle.shared_device.specs.Commanding.{actors_of}
-use Rattle.shared_device.specs.declared.pass.Pass.{Pass}
+use Rattle.shared_device.specs.{Commanding.actors_of, Passing.IsNewPass, Passing.IsOneOf, Passing.pass_actor, Passing.pass_calls, Passing.pass_number, declared.pass.Pass.Pass}
 use Rattle.shared_device.specs.declared.shared.Shared.{Shared}
-use Rattle.shared_device.specs.Passing.{IsNewPass, IsOneOf, pass_actor, pass_calls, pass_number}
 use Rattle.workers.specs.Phases.{task_of, tasks}
 
 -- the passes are as they were made, host by host and lane by lane, then the manager, then the sanitizer

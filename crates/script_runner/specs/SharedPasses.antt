@@ -1,7 +1,5 @@
 -- What the workers read of the passes of a shared device.
-use Rattle.shared_device.specs.declared.pass.Pass.{Pass}
-use Rattle.shared_device.specs.declared.shared.Shared.{Shared}
-use Rattle.shared_device.specs.Passing.{IsOneOf, pass_actor, pass_calls, pass_number}
+use Rattle.shared_device.specs.{declared.pass.Pass.Pass, declared.shared.Shared.Shared, Passing.IsOneOf, Passing.pass_actor, Passing.pass_calls, Passing.pass_number}
 use Rattle.workers.specs.Handling.{HandlerReads}
 
 abbrev pub shared_reads : {H : Type 0} → (H → Shared) → HandlerReads H Pass

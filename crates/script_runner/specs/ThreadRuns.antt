@@ -1,17 +1,11 @@
 -- What a run of a script in threads leaves.
 use Rattle.std.specs.Prelude.{◌≡◌, ℕ, ◌+◌, ◌*◌, List, length}
-use Rattle.device_plain.specs.device_rules.specs.Legal.{Exclusive, Legal}
-use Rattle.device_plain.specs.isolation_laws.specs.Solo.{Isolated}
-use Rattle.journal_core.specs.declared.entries.Entry.{Entry}
-use Rattle.journal_core.specs.Merging.{Numbered}
+use Rattle.device_plain.specs.{device_rules.specs.Legal.Exclusive, device_rules.specs.Legal.Legal, isolation_laws.specs.Solo.Isolated}
+use Rattle.journal_core.specs.{declared.entries.Entry.Entry, Merging.Numbered}
 use Rattle.region_config.specs.Configurations.{Configuration}
-use Rattle.script_gen.specs.script_codec.specs.declared.scripts.Script.{Script}
-use Rattle.script_gen.specs.script_codec.specs.Covering.{Covers}
-use Rattle.shared_device.specs.ruled_cells.specs.Calls.{seats_of}
+use Rattle.script_gen.specs.script_codec.specs.{declared.scripts.Script.Script, Covering.Covers}
+use Rattle.shared_device.specs.{ruled_cells.specs.Calls.seats_of, Closing.IsClosed, declared.pass.Pass.Pass, declared.shared.Shared.Shared}
 use Rattle.script_runner.specs.ScriptPasses.{HaveRun}
-use Rattle.shared_device.specs.Closing.{IsClosed}
-use Rattle.shared_device.specs.declared.pass.Pass.{Pass}
-use Rattle.shared_device.specs.declared.shared.Shared.{Shared}
 
 -- the entries are those of a shared device that was taken apart once all its passes came back
 abbrev pub IsTakenApart : Configuration → List Entry → List (List Entry) → Type 0

@@ -1,11 +1,8 @@
 -- What a run in threads leaves.
 use Rattle.std.specs.Prelude.{◌≡◌, ℕ, List, length}
-use Rattle.journal_core.specs.declared.entries.Entry.{Entry}
-use Rattle.journal_core.specs.Merging.{AllRise}
-use Rattle.journal_core.specs.Merging.{merged}
+use Rattle.journal_core.specs.{declared.entries.Entry.Entry, Merging.AllRise, Merging.merged}
 use Rattle.region_config.specs.Configurations.{Configuration}
-use Rattle.script_gen.specs.script_codec.specs.declared.scripts.Script.{Script}
-use Rattle.script_gen.specs.script_codec.specs.Scripts.{ReadsScript}
+use Rattle.script_gen.specs.script_codec.specs.{declared.scripts.Script.Script, Scripts.ReadsScript}
 use Rattle.script_runner.specs.ThreadRuns.{IsTakenApart, IsThreadRun}
 
 -- All that is printed from: the entries of the control, and those of the shards, which make one journal.

@@ -1,8 +1,7 @@
 -- The words of the command line, and what they ask for.
 use Rattle.std.specs.Prelude.{◌≡◌, ◌⊎◌, ℕ, List, [], ◌∷◌, ◌++◌, codes, Option, Some, None}
 use Rattle.edge_io.specs.Words.{IsNumber}
-use Rattle.script_runner.specs.declared.words.Choice.{Choice}
-use Rattle.script_runner.specs.declared.words.Mode.{Mode}
+use Rattle.script_runner.specs.declared.words.{Choice.Choice, Mode.Mode}
 
 -- ---- the words that are accepted
 

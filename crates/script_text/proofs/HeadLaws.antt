@@ -1,25 +1,16 @@
 -- The head of a text: what is read of each line is what its words say, and the other way round.
 use Rattle.std.proofs.Common.{◌≡◌, ℕ, zero, suc, ◌*◌, ◌/◌, ◌%◌, ◌^◌, ◌≤◌, Bool, true, false, not, ◌==◌, ◌&&◌, ◌||◌, ◌⊎◌, nat_lt, List, [], ◌∷◌, ◌++◌, length, Option, Some, None, Result, Ok, Err, refl, sym, ap, ◌∙◌, subst, inl, inr, arith}
 use lib.Pointwise.{pointwise, bytes_decides}
-use Rattle.std.specs.Prelude.{codes}
 use Rattle.std.proofs.lemmas.Bool.{cases_Bool, cond-false, cond-true, eq-eqb, eqb-false, eqb-true, ne_eqb}
+use Rattle.std.specs.Prelude.{codes}
 use Rattle.region_config.specs.declared.region_spec.RegionSpec.{RegionSpec}
-use Rattle.text_lines.specs.script_codec.proofs.Writable.{laned}
-use Rattle.text_lines.specs.script_codec.specs.Scripts.{are_lanes}
-use Rattle.text_lines.specs.Sizes.{sizes_said}
-use Rattle.text_lines.specs.Unread.{UnreadWords, first_unread, leading_word}
+use Rattle.text_lines.proofs.{LineLaws.fixed_took, LineLaws.reads_all, LineLaws.split_parts, LineLaws.word_first, LineLaws.word_last, RequestLaws.goes_made}
 use Rattle.text_lines.specs.Chains.{◌>>!◌ as ◌>>=◌}
 use Rattle.text_lines.specs.Fields.{end_ahead, flag_ahead, keyword_ahead, may_ahead, named_ahead, number_ahead, number_of_word, one_word}
-use Rattle.text_lines.specs.Keywords.{keyword_text}
-use Rattle.text_lines.specs.Layouts.{most_32, most_64}
-use Rattle.text_lines.specs.Parts.{Form, Part, ReadsPart, ReadsParts, SaysNumber, Takes, key}
-use Rattle.text_lines.specs.declared.faults.Cause.{Cause}
-use Rattle.text_lines.specs.declared.faults.TextFault.{TextFault}
-use Rattle.text_lines.specs.declared.faults.Wanted.{Wanted}
-use Rattle.text_lines.specs.declared.keywords.Keyword.{Keyword}
+use Rattle.text_lines.specs.{Keywords.keyword_text, Layouts.most_32, Layouts.most_64, Parts.Form, Parts.Part, Parts.ReadsPart, Parts.ReadsParts, Parts.SaysNumber, Parts.Takes, Parts.key}
+use Rattle.text_lines.specs.{Sizes.sizes_said, Unread.UnreadWords, Unread.first_unread, Unread.leading_word, declared.faults.Cause.Cause, declared.faults.TextFault.TextFault}
+use Rattle.text_lines.specs.{declared.faults.Wanted.Wanted, declared.keywords.Keyword.Keyword, script_codec.proofs.Writable.laned, script_codec.specs.Scripts.are_lanes}
 use Rattle.text_lines.proofs.FieldLaws.{Goes, IsNot, Took, bound, end_goes, end_sound, flag_goes, flag_sound, goes_then, keyword_goes, keyword_sound, may_goes, may_sound, named_goes, named_sound, number_goes, number_says, number_sound, ok_is, one_goes, one_sound, says_number, took_one, took_then}
-use Rattle.text_lines.proofs.LineLaws.{fixed_took, reads_all, split_parts, word_first, word_last}
-use Rattle.text_lines.proofs.RequestLaws.{goes_made}
 use Rattle.script_text.specs.Heads.{bases_at, bases_behind, decode_ahead, extent_of_region_ahead, host_line_ahead, in_turn, in_units, lanes_ahead, region_ahead, sizes_ahead, sizes_or, some_lanes, start_ahead, told_lanes_ahead, turn_ahead, version_ahead, version_of_word}
 use Rattle.script_text.specs.Layouts.{base_parts, host_parts, region_parts, start_parts}
 

@@ -2,17 +2,9 @@
 use Rattle.std.proofs.Common.{◌≡◌, ℕ, suc, ◌+◌, ◌-◌, true, false, ◌==◌, List, [], ◌∷◌, ◌++◌, Result, Ok, Err, refl, sym, ap, ◌∙◌, append-nil, append_assoc}
 use Rattle.std.proofs.lemmas.Bool.{cond-false, cond-true, eq-eqb, ne_eqb}
 use Rattle.region_config.specs.declared.region_spec.RegionSpec.{RegionSpec}
+use Rattle.text_lines.specs.{Chains.◌>>!◌ as ◌>>=◌, Fields.begins, Fields.number_ahead, Layouts.most_64, Lines.opening_ahead, Lines.rest_ahead, Unread.UnreadWords, declared.actors.Frame.Frame}
+use Rattle.text_lines.specs.declared.{faults.Cause.Cause, faults.TextFault.TextFault, keywords.Keyword.Keyword, openings.Opening.Opening}
 use Rattle.text_lines.specs.script_codec.specs.declared.script_line.Line.{Line}
-use Rattle.text_lines.specs.Unread.{UnreadWords}
-use Rattle.text_lines.specs.Chains.{◌>>!◌ as ◌>>=◌}
-use Rattle.text_lines.specs.Fields.{begins, number_ahead}
-use Rattle.text_lines.specs.Layouts.{most_64}
-use Rattle.text_lines.specs.Lines.{opening_ahead, rest_ahead}
-use Rattle.text_lines.specs.declared.actors.Frame.{Frame}
-use Rattle.text_lines.specs.declared.faults.Cause.{Cause}
-use Rattle.text_lines.specs.declared.faults.TextFault.{TextFault}
-use Rattle.text_lines.specs.declared.keywords.Keyword.{Keyword}
-use Rattle.text_lines.specs.declared.openings.Opening.{Opening}
 use Rattle.script_text.specs.Heads.{base_list_behind, bases_at, bases_behind, host_line_ahead, host_lines_at, hosts_behind, region_ahead, regions_at, regions_behind}
 use Rattle.script_text.specs.Texts.{first_begins, lines_at, lines_behind, room_for_line}
 

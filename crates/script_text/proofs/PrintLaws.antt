@@ -1,15 +1,10 @@
 -- Words of a line that are put one after another say its parts.
 use Rattle.std.proofs.Common.{◌≡◌, ℕ, List, [], ◌∷◌, ◌++◌, refl, sym, ap, ◌∙◌, subst, arith, append-nil, append_assoc}
-use Rattle.std.specs.List.{AllByRecursion, flat_map}
-use Rattle.std.proofs.lemmas.Grind.{flat_map-append}
-use Rattle.text_lines.specs.Characters.{IsTextWord}
-use Rattle.text_lines.specs.Texts.{IsWordLine}
-use Rattle.text_lines.specs.Words.{line_text, spaced}
-use Rattle.text_lines.specs.Keywords.{keyword_text}
-use Rattle.text_lines.specs.Parts.{Part, ReadsPart, ReadsParts, Takes, part_words, parts_words}
-use Rattle.script_text.specs.LinePrinting.{AddsLine, AddsParts, StartsLine}
+use Rattle.std.{specs.List.AllByRecursion, specs.List.flat_map, proofs.lemmas.Grind.flat_map-append}
+use Rattle.text_lines.{proofs.FieldLaws.Took, proofs.FieldLaws.took_then, specs.Characters.IsTextWord, specs.Keywords.keyword_text}
+use Rattle.text_lines.specs.{Parts.Part, Parts.ReadsPart, Parts.ReadsParts, Parts.Takes, Parts.part_words, Parts.parts_words, Texts.IsWordLine, Words.line_text, Words.spaced}
 use Rattle.text_lines.specs.declared.keywords.Keyword.{Keyword}
-use Rattle.text_lines.proofs.FieldLaws.{Took, took_then}
+use Rattle.script_text.specs.LinePrinting.{AddsLine, AddsParts, StartsLine}
 
 -- ---- one after another
 takes_more : (words rest more : List (List ℕ)) (ps : List Part) → Takes words ps rest → Takes (words ++ more) ps (rest ++ more)

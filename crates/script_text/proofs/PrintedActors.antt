@@ -1,23 +1,16 @@
 -- What is printed of an actor says it.
 use Rattle.std.proofs.Common.{◌≡◌, ℕ, ◌<◌, true, false, cond, not, ◌==◌, ◌&&◌, nat_lt, List, [], ◌∷◌, ◌++◌, length, Some, Ok, Err, refl, sym, ap, ◌∙◌, subst, inl, inr, arith, append_assoc, length-append, decimal}
-use Rattle.std.specs.Prelude.{codes}
-use Rattle.std.specs.List.{list_all}
 use Rattle.std.proofs.lemmas.Bool.{and_from, and_parts, cases_Bool, cond-false, cond-true, eqb-true, lt-ltb, ltb-true}
+use Rattle.std.specs.{List.list_all, Prelude.codes}
 use Rattle.dcd_base.specs.declared.steps.Actor.{Actor}
-use Rattle.text_lines.specs.script_codec.specs.Scripts.{are_lanes, bad_lanes}
-use Rattle.text_lines.specs.Characters.{IsNumberWord, IsTextWord, passed_from, is_high, is_other}
-use Rattle.text_lines.specs.Extents.{after, before}
-use Rattle.text_lines.specs.Numbers.{digits_said, under}
-use Rattle.text_lines.specs.declared.word_faults.NumberFault.{NumberFault}
 use Rattle.text_lines.proofs.PrintedNumbers.{decimal_digits, decimal_reads, number_high}
 use Rattle.text_lines.proofs.PrintedWords.{after_sign, before_sign, joined_word, number_is_word, sign_at}
+use Rattle.text_lines.specs.{Characters.IsNumberWord, Characters.IsTextWord, Characters.passed_from, Characters.is_high, Characters.is_other, Extents.after, Extents.before}
+use Rattle.text_lines.specs.{Numbers.digits_said, Numbers.under, Parts.Part, declared.actors.Frame.Frame, declared.faults.Wanted.Wanted, declared.word_faults.NumberFault.NumberFault}
+use Rattle.text_lines.specs.script_codec.specs.Scripts.{are_lanes, bad_lanes}
 use Rattle.text_lines.specs.Actors.{SaysActor, actor_of_seat, actor_of_word, actor_text, has_dot, host_said, host_text, seat_of_parts, seat_said, seat_text}
-use Rattle.text_lines.specs.Parts.{Part}
+use Rattle.script_text.proofs.{PrintLaws.adds_word, PrintLaws.space_then, PrintLaws.starts_word, PrintedParts.host_reads}
 use Rattle.script_text.specs.LinePrinting.{AddsParts, IsSmall, StartsLine, has_word}
-use Rattle.text_lines.specs.declared.actors.Frame.{Frame}
-use Rattle.text_lines.specs.declared.faults.Wanted.{Wanted}
-use Rattle.script_text.proofs.PrintLaws.{adds_word, space_then, starts_word}
-use Rattle.script_text.proofs.PrintedParts.{host_reads}
 
 number_word : (n : ℕ) → n < 256 → IsNumberWord (decimal n)
 number_word n low = number_high n (decimal n) (decimal_reads n (omega (arith, low)))

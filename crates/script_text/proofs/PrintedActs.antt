@@ -1,23 +1,14 @@
 -- What is printed of an act and of a line says it.
 use Rattle.std.proofs.Common.{◌≡◌, ℕ, List, [], ◌∷◌, ◌++◌, Some, None, refl, sym, ap, ◌∙◌, subst, inl, inr, arith}
-use Rattle.cci_codec.specs.Messages.{ReadsRequest, request_bytes}
-use Rattle.cci_codec.specs.declared.messages.Request.{Request}
+use Rattle.cci_codec.specs.{Messages.ReadsRequest, Messages.request_bytes, declared.messages.Request.Request}
 use Rattle.dcd_base.specs.declared.steps.Actor.{Actor}
-use Rattle.fm_payloads.specs.ManagerPayloads.{manager_request}
-use Rattle.fm_payloads.specs.declared.requests.FmRequest.{FmRequest}
-use Rattle.host_payloads.specs.HostPayloads.{host_request}
-use Rattle.host_payloads.specs.declared.requests.HostRequest.{HostRequest}
-use Rattle.text_lines.specs.Texts.{IsWordLine}
-use Rattle.text_lines.specs.Words.{line_text}
-use Rattle.text_lines.specs.Commands.{host_command_text, manager_command_text}
+use Rattle.fm_payloads.specs.{ManagerPayloads.manager_request, declared.requests.FmRequest.FmRequest}
+use Rattle.host_payloads.specs.{HostPayloads.host_request, declared.requests.HostRequest.HostRequest}
+use Rattle.text_lines.specs.{Characters.IsTextWord, Commands.host_command_text, Commands.manager_command_text}
 use Rattle.text_lines.specs.Layouts.{command_line, host_form, host_named, host_request_parts, manager_form, manager_named, manager_request_parts, tag_part}
-use Rattle.text_lines.specs.Lines.{host_message, manager_message}
-use Rattle.text_lines.specs.Parts.{Part, ReadsParts, parts_words}
+use Rattle.text_lines.specs.{Lines.host_message, Lines.manager_message, Parts.Part, Parts.ReadsParts, Parts.parts_words, Texts.IsWordLine, Words.line_text, declared.actors.Frame.Frame}
+use Rattle.text_lines.specs.declared.commands.{HostCommand.HostCommand, ManagerCommand.ManagerCommand}
 use Rattle.script_text.specs.LinePrinting.{AddsLine, PrintsHostCommand, PrintsManagerCommand}
-use Rattle.text_lines.specs.declared.actors.Frame.{Frame}
-use Rattle.text_lines.specs.declared.commands.HostCommand.{HostCommand}
-use Rattle.text_lines.specs.declared.commands.ManagerCommand.{ManagerCommand}
-use Rattle.text_lines.specs.Characters.{IsTextWord}
 
 -- ---- names of commands are words
 pub host_command_word : (command : HostCommand) → IsTextWord (host_command_text command)

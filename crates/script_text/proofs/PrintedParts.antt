@@ -1,32 +1,18 @@
 -- What is printed for each part of a line says that part.
 use Rattle.std.proofs.Common.{◌≡◌, ℕ, suc, ◌+◌, ◌^◌, ◌-◌, ◌<◌, ◌≤◌, Bool, true, false, cond, ◌==◌, nat_le, List, [], ◌∷◌, ◌++◌, length, map, take, get_or, Some, refl, sym, ap, ◌∙◌, subst, inl, inr, arith, append-nil, append_assoc, decimal}
 use lib.Pointwise.{bytes_decides}
-use Rattle.std.specs.List.{AllByRecursion, flat_map, list_all}
-use Rattle.std.proofs.lemmas.Bool.{and_from, and_parts, cases_Bool, eq-eqb, eqb-true, le-leb, ne_eqb}
-use Rattle.std.proofs.lemmas.Grind.{flat_map-append}
-use Rattle.std.proofs.lemmas.List.{map-append, take_more}
-use Rattle.std.proofs.lemmas.List.Folds.{list_all_at}
-use Rattle.dcd_base.specs.Words.{is_zero_tag, zero_tag}
-use Rattle.dcd_base.specs.declared.capacity.Extent.{Extent}
-use Rattle.dcd_base.specs.declared.capacity.Tag.{Tag}
-use Rattle.dcd_base.proofs.WholeExtents.{same_extent}
-use Rattle.dcd_base.specs.Layouts.{is_byte}
+use Rattle.std.proofs.lemmas.{Bool.and_from, Bool.and_parts, Bool.cases_Bool, Bool.eq-eqb, Bool.eqb-true, Bool.le-leb, Bool.ne_eqb, Grind.flat_map-append, List.map-append, List.take_more}
+use Rattle.std.{proofs.lemmas.List.Folds.list_all_at, specs.List.AllByRecursion, specs.List.flat_map, specs.List.list_all}
+use Rattle.dcd_base.{specs.Words.is_zero_tag, specs.Words.zero_tag, specs.declared.capacity.Extent.Extent, specs.declared.capacity.Tag.Tag, proofs.WholeExtents.same_extent, specs.Layouts.is_byte}
 use Rattle.hex.specs.Hex.{IsBytes}
 use Rattle.host_payloads.specs.HostPayloads.{is_untagged}
-use Rattle.text_lines.specs.Characters.{IsNumberWord, IsTextWord, is_printed}
-use Rattle.text_lines.specs.Extents.{extent_said, extent_text, untagged}
-use Rattle.text_lines.specs.Numbers.{digits_said, number_said}
-use Rattle.text_lines.specs.Pairs.{pair_text, tag_said, tag_text}
-use Rattle.text_lines.specs.Sizes.{sizes_said, sizes_text}
-use Rattle.text_lines.specs.Words.{spaced}
-use Rattle.text_lines.proofs.PrintedPairs.{each_small, pair_reads_back, pair_word}
-use Rattle.text_lines.proofs.PrintedWords.{high_printed, number_is_word}
-use Rattle.text_lines.specs.Actors.{host_said, host_text}
-use Rattle.text_lines.specs.Keywords.{keyword_text}
-use Rattle.text_lines.specs.Parts.{AllSay, AreBytes, Behind, Form, OneWord, Part, ReadsPart, ReadsParts, SaysExtent, SaysNumber, behind_key, handle_words, key, number_text}
-use Rattle.script_text.specs.LinePrinting.{AddsItems, AddsParts}
+use Rattle.text_lines.proofs.{PrintedPairs.each_small, PrintedPairs.pair_reads_back, PrintedPairs.pair_word, PrintedWords.high_printed, PrintedWords.number_is_word}
+use Rattle.text_lines.specs.{Actors.host_said, Actors.host_text, Characters.IsNumberWord, Characters.IsTextWord, Characters.is_printed, Extents.extent_said, Extents.extent_text, Extents.untagged}
+use Rattle.text_lines.specs.{Keywords.keyword_text, Numbers.digits_said, Numbers.number_said, Pairs.pair_text, Pairs.tag_said, Pairs.tag_text, Sizes.sizes_said, Sizes.sizes_text, Words.spaced}
 use Rattle.text_lines.specs.declared.keywords.Keyword.{Keyword}
+use Rattle.text_lines.specs.Parts.{AllSay, AreBytes, Behind, Form, OneWord, Part, ReadsPart, ReadsParts, SaysExtent, SaysNumber, behind_key, handle_words, key, number_text}
 use Rattle.script_text.proofs.PrintLaws.{adds_word, adds_words, each_then, keyword_word, space_then}
+use Rattle.script_text.specs.LinePrinting.{AddsItems, AddsParts}
 
 -- ---- numbers
 pub number_adds : {old mid new : List ℕ} (form : Form) (most n : ℕ) → n ≤ most → number_said (number_text form n) ≡ Some n → IsNumberWord (number_text form n) → mid ≡ old ++ 32 ∷ [] → new ≡ mid ++ number_text form n → AddsParts old new (Part.Number form most n ∷ [])

@@ -1,21 +1,14 @@
 -- What is printed of policies says them.
 use Rattle.std.proofs.Common.{◌≡◌, ℕ, zero, suc, ◌/◌, ◌%◌, ◌<◌, ◌≤◌, true, false, ◌==◌, nat_lt, List, [], ◌∷◌, ◌++◌, Some, refl, sym, ap, ◌∙◌, subst, inl, inr, arith, append-nil, append_assoc, decimal}
+use Rattle.std.{proofs.lemmas.Bool.and_parts, proofs.lemmas.Bool.cond-false, proofs.lemmas.Bool.cond-true, proofs.lemmas.Bool.ltb-true, proofs.lemmas.Bool.ne_eqb, specs.List.flat_map}
 use Rattle.std.specs.Prelude.{codes}
-use Rattle.std.specs.List.{flat_map}
-use Rattle.std.proofs.lemmas.Bool.{and_parts, cond-false, cond-true, ltb-true, ne_eqb}
 use Rattle.dcd_base.specs.Words.{flag_of}
-use Rattle.text_lines.specs.Characters.{IsNumberWord, IsTextWord}
-use Rattle.text_lines.specs.Numbers.{hexadecimal, number_said}
-use Rattle.text_lines.specs.Unread.{leading_word}
-use Rattle.text_lines.specs.Words.{spaced}
-use Rattle.text_lines.proofs.PrintedWords.{number_is_word}
-use Rattle.text_lines.specs.Keywords.{keyword_text}
-use Rattle.text_lines.specs.Parts.{Form, Part, key}
+use Rattle.text_lines.{proofs.PrintedWords.number_is_word, specs.Characters.IsNumberWord, specs.Characters.IsTextWord, specs.Keywords.keyword_text}
+use Rattle.text_lines.specs.{Numbers.hexadecimal, Numbers.number_said, Parts.Form, Parts.Part, Parts.key}
 use Rattle.text_lines.specs.Policies.{add_policy_said, add_policy_text, are_named, release_flags, release_flags_text, release_policy_said, release_policy_text, word_where}
+use Rattle.text_lines.specs.{Unread.leading_word, Words.spaced, declared.keywords.Keyword.Keyword}
+use Rattle.script_text.proofs.{PrintLaws.adds_then, PrintLaws.adds_word, PrintLaws.adds_words, PrintLaws.keyword_word, PrintLaws.space_then, PrintedParts.number_behind}
 use Rattle.script_text.specs.LinePrinting.{AddsParts}
-use Rattle.text_lines.specs.declared.keywords.Keyword.{Keyword}
-use Rattle.script_text.proofs.PrintLaws.{adds_then, adds_word, adds_words, keyword_word, space_then}
-use Rattle.script_text.proofs.PrintedParts.{number_behind}
 
 -- ---- adds
 pub record NamesAdd (policy : ℕ) (name : List ℕ) : Type 0 where

@@ -1,24 +1,16 @@
 -- What is printed of a script says it.
 use Rattle.std.proofs.Common.{◌≡◌, ℕ, zero, suc, ◌+◌, ◌*◌, ◌-◌, ◌<◌, List, [], ◌∷◌, ◌++◌, length, map, take, drop, get_or, refl, sym, ap, ◌∙◌, subst, arith, append-nil, append_assoc, length-drop}
-use Rattle.std.specs.List.{AllByRecursion, flat_map}
-use Rattle.std.proofs.lemmas.Grind.{flat_map-append}
+use Rattle.std.proofs.{Math.Nat.suc-mul, lemmas.Grind.flat_map-append}
 use Rattle.std.proofs.lemmas.List.{drop-drop, get_or-drop, get_or-take, length-take-le, map-append, take_more}
-use Rattle.std.proofs.Math.Nat.{suc-mul}
+use Rattle.std.specs.List.{AllByRecursion, flat_map}
 use Rattle.region_config.specs.declared.region_spec.RegionSpec.{RegionSpec}
-use Rattle.text_lines.specs.script_codec.proofs.Adding.{within_seats}
-use Rattle.text_lines.specs.script_codec.specs.Writing.{IsWritable}
-use Rattle.text_lines.specs.script_codec.specs.declared.script_line.Line.{Line}
-use Rattle.text_lines.specs.script_codec.specs.declared.scripts.Script.{Script}
-use Rattle.text_lines.specs.Texts.{IsWordLine, words_of_lines}
-use Rattle.text_lines.specs.Words.{line_text}
-use Rattle.text_lines.proofs.TextLaws.{text_parts as text_has}
-use Rattle.text_lines.specs.Layouts.{line_parts, most_64}
-use Rattle.text_lines.specs.Parts.{Form, Part, parts_words}
-use Rattle.text_lines.specs.declared.actors.Frame.{Frame}
-use Rattle.script_text.specs.LinePrinting.{AddsLine, AddsParts, PrintsLine, printed_words}
+use Rattle.text_lines.{proofs.TextLaws.text_parts as text_has, specs.Layouts.line_parts, specs.Layouts.most_64, specs.Parts.Form, specs.Parts.Part, specs.Parts.parts_words}
+use Rattle.text_lines.specs.{Texts.IsWordLine, Texts.words_of_lines, Words.line_text, declared.actors.Frame.Frame, script_codec.proofs.Adding.within_seats, script_codec.specs.Writing.IsWritable}
+use Rattle.text_lines.specs.script_codec.specs.declared.{script_line.Line.Line, scripts.Script.Script}
 use Rattle.script_text.proofs.PrintLaws.{adds_then, each_then as all_then}
-use Rattle.script_text.specs.Layouts.{ReadsLines, Says, SaysLines, base_parts, frame_of_script, head_parts, host_parts, hosts_parts, region_parts, regions_parts}
+use Rattle.script_text.specs.LinePrinting.{AddsLine, AddsParts, PrintsLine, printed_words}
 use Rattle.script_text.specs.Printing.{AddsLines, AddsScriptLines, printed_line, printed_script_line, script_text, text_parts}
+use Rattle.script_text.specs.Layouts.{ReadsLines, Says, SaysLines, base_parts, frame_of_script, head_parts, host_parts, hosts_parts, region_parts, regions_parts}
 
 -- ---- lines of the head
 reads_then : (ps qs : List (List Part)) → ReadsLines (map parts_words ps) ps → ReadsLines (map parts_words qs) qs → ReadsLines (map parts_words (ps ++ qs)) (ps ++ qs)

@@ -1,14 +1,10 @@
 -- How many bytes a script has.
 use Rattle.std.proofs.Common.{◌≡◌, ℕ, ◌+◌, ◌*◌, ◌-◌, ◌^◌, ◌<◌, ◌≤◌, Bool, true, false, ◌==◌, nat_le, List, [], ◌∷◌, ◌++◌, length, map, min, refl, sym, ap, ◌∙◌, inl, inr, arith, length-append}
-use Rattle.std.specs.Prelude.{flat_map}
-use Rattle.std.specs.Int.{w8, w64}
-use Rattle.std.proofs.lemmas.Bool.{cases_Bool, le-leb, leb-false, leb-true}
-use Rattle.std.proofs.lemmas.Grind.{flat_map-append}
-use Rattle.std.proofs.Math.Nat.{mul_assoc}
+use Rattle.std.proofs.{Math.Nat.mul_assoc, lemmas.Bool.cases_Bool, lemmas.Bool.le-leb, lemmas.Bool.leb-false, lemmas.Bool.leb-true, lemmas.Grind.flat_map-append}
+use Rattle.std.specs.{Int.w8, Int.w64, Prelude.flat_map}
 use Rattle.dcd_base.specs.Layouts.{Field, Number, spell, spelling}
 use Rattle.region_config.specs.declared.region_spec.RegionSpec.{RegionSpec}
-use Rattle.text_lines.specs.script_codec.specs.Scripts.{lanes_fields, line_fields, region_fields, script_head, start_fields}
-use Rattle.text_lines.specs.script_codec.specs.Writing.{script_bytes}
+use Rattle.text_lines.specs.script_codec.specs.{Scripts.lanes_fields, Scripts.line_fields, Scripts.region_fields, Scripts.script_head, Scripts.start_fields, Writing.script_bytes}
 use Rattle.text_lines.specs.script_codec.specs.declared.scripts.Script.{Script}
 
 joined_size : (fs gs : List Field) → length (spelling (fs ++ gs)) ≡ length (spelling fs) + length (spelling gs)

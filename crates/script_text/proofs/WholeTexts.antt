@@ -1,43 +1,20 @@
 -- Whole texts: the script that is read is the one that the text says.
 use Rattle.std.proofs.Common.{◌≡◌, ℕ, zero, suc, ◌+◌, ◌*◌, ◌-◌, ◌<◌, ◌≤◌, true, false, cond, ◌==◌, nat_lt, List, [], ◌∷◌, ◌++◌, length, map, take, drop, Option, Some, None, Result, Ok, Err, refl, sym, ap, ◌∙◌, subst, inl, inr, arith, length-append, length-drop, take-append-drop}
 use lib.Pointwise.{pointwise}
-use Rattle.std.specs.Prelude.{IfOk}
-use Rattle.std.specs.List.{list_all}
-use Rattle.std.proofs.lemmas.List.{drop_at, length-take-le, take_at}
-use Rattle.std.proofs.Math.Nat.{suc-mul}
-use Rattle.std.proofs.lemmas.Bool.{and_from, cases_Bool, cond-false, cond-true, le-ltb, ltb-false, ne_eqb}
-use Rattle.region_config.specs.Configurations.{Configuration}
-use Rattle.region_config.specs.Setups.{config_fault}
-use Rattle.region_config.specs.declared.faults.ConfigFault.{ConfigFault}
-use Rattle.region_config.specs.declared.region_spec.RegionSpec.{RegionSpec}
-use Rattle.text_lines.specs.script_codec.specs.Reading.{most_bytes, most_lines}
-use Rattle.text_lines.specs.script_codec.specs.Scripts.{are_lanes, is_sound_line}
-use Rattle.text_lines.specs.script_codec.specs.Writing.{IsWritable, has_short_message, script_bytes}
-use Rattle.text_lines.specs.script_codec.specs.declared.heads.Head.{Head}
-use Rattle.text_lines.specs.script_codec.specs.declared.script_line.Line.{Line}
-use Rattle.text_lines.specs.script_codec.specs.declared.scripts.Script.{Script}
-use Rattle.text_lines.specs.script_codec.proofs.Writable.{counted}
-use Rattle.text_lines.specs.Unread.{Ahead, UnreadWords, all_of, leading_word}
-use Rattle.text_lines.specs.Chains.{◌>>!◌ as ◌>>=◌}
-use Rattle.text_lines.specs.Fields.{GivesLast, begins}
-use Rattle.text_lines.specs.Keywords.{keyword_text}
-use Rattle.text_lines.specs.Layouts.{SaysLine}
-use Rattle.text_lines.specs.Lines.{opening_ahead, opening_of_word, rest_ahead}
-use Rattle.text_lines.specs.Parts.{Part, ReadsParts}
-use Rattle.text_lines.specs.declared.actors.Frame.{Frame}
-use Rattle.text_lines.specs.declared.faults.Cause.{Cause}
-use Rattle.text_lines.specs.declared.faults.TextFault.{TextFault}
-use Rattle.text_lines.specs.declared.faults.Wanted.{Wanted}
-use Rattle.text_lines.specs.declared.keywords.Keyword.{Keyword}
-use Rattle.text_lines.specs.declared.openings.Opening.{Opening}
-use Rattle.text_lines.proofs.FieldLaws.{begins_with, begins_words, bound, ok_is, one_sound}
-use Rattle.text_lines.proofs.LineLaws.{line_goes, line_sound, word_first}
-use Rattle.text_lines.proofs.OpeningLaws.{host_never_opens}
-use Rattle.text_lines.proofs.SoundLaws.{short_message, sound_line}
+use Rattle.std.proofs.{Math.Nat.suc-mul, lemmas.Bool.and_from, lemmas.Bool.cases_Bool, lemmas.Bool.cond-false, lemmas.Bool.cond-true, lemmas.Bool.le-ltb, lemmas.Bool.ltb-false, lemmas.Bool.ne_eqb}
+use Rattle.std.{proofs.lemmas.List.drop_at, proofs.lemmas.List.length-take-le, proofs.lemmas.List.take_at, specs.List.list_all, specs.Prelude.IfOk}
+use Rattle.region_config.specs.{Configurations.Configuration, Setups.config_fault, declared.faults.ConfigFault.ConfigFault, declared.region_spec.RegionSpec.RegionSpec}
+use Rattle.text_lines.proofs.{FieldLaws.begins_with, FieldLaws.begins_words, FieldLaws.bound, FieldLaws.ok_is, FieldLaws.one_sound, LineLaws.line_goes, LineLaws.line_sound, LineLaws.word_first}
+use Rattle.text_lines.{proofs.OpeningLaws.host_never_opens, proofs.SoundLaws.short_message, proofs.SoundLaws.sound_line, specs.Chains.◌>>!◌ as ◌>>=◌, specs.Fields.GivesLast, specs.Fields.begins}
+use Rattle.text_lines.specs.{Keywords.keyword_text, Layouts.SaysLine, Lines.opening_ahead, Lines.opening_of_word, Lines.rest_ahead, Parts.Part, Parts.ReadsParts}
+use Rattle.text_lines.specs.{Unread.Ahead, Unread.UnreadWords, Unread.all_of, Unread.leading_word, declared.actors.Frame.Frame, declared.faults.Cause.Cause, declared.faults.TextFault.TextFault}
+use Rattle.text_lines.specs.{declared.faults.Wanted.Wanted, declared.keywords.Keyword.Keyword, declared.openings.Opening.Opening, script_codec.proofs.Writable.counted}
+use Rattle.text_lines.specs.script_codec.specs.{Reading.most_bytes, Reading.most_lines, Scripts.are_lanes, Scripts.is_sound_line, Writing.IsWritable, Writing.has_short_message, Writing.script_bytes}
+use Rattle.text_lines.specs.script_codec.specs.declared.{heads.Head.Head, script_line.Line.Line, scripts.Script.Script}
+use Rattle.script_text.proofs.HeadLaws.{host_goes, host_sound, region_goes, region_sound, start_goes, start_sound}
 use Rattle.script_text.specs.Heads.{host_line_ahead, host_lines_at, hosts_behind, region_ahead, regions_at, regions_behind, start_ahead}
 use Rattle.script_text.specs.Layouts.{ReadsLines, Says, SaysLines, frame_of_script, head_parts, host_parts, hosts_parts, regions_parts, start_parts}
 use Rattle.script_text.specs.Texts.{IsParsed, IsParsedAs, config_ahead, config_or_fault, config_checked, first_begins, frame_of, frame_of_head, head_ahead, lines_at, lines_behind, made_config, opening_read, room_for_line, script_of_lines, script_said, script_with, short_script, some_hosts_ahead, some_read, some_regions_ahead, started}
-use Rattle.script_text.proofs.HeadLaws.{host_goes, host_sound, region_goes, region_sound, start_goes, start_sound}
 
 -- ---- lines with words that are still to come
 abbrev pub LinesTake : List UnreadWords → List (List Part) → List UnreadWords → Type 0

@@ -2,15 +2,9 @@
 use Rattle.std.specs.Prelude.{ℕ, zero, suc, ◌+◌, ◌-◌, ◌/◌, ◌%◌, ◌^◌, ◌==◌, Bool, List, [], ◌∷◌, ◌++◌, Option, Some, None, Result, Ok, Err, if◌then◌else◌, codes}
 use lib.Pointwise.{pointwise}
 use Rattle.region_config.specs.declared.region_spec.RegionSpec.{RegionSpec}
-use Rattle.text_lines.specs.Unread.{UnreadWords, first_unread}
-use Rattle.text_lines.specs.Sizes.{sizes_said}
-use Rattle.text_lines.specs.Layouts.{most_64}
-use Rattle.text_lines.specs.Chains.{◌>>!◌ as ◌>>=◌}
+use Rattle.text_lines.specs.{Chains.◌>>!◌ as ◌>>=◌, Layouts.most_64, Sizes.sizes_said, Unread.UnreadWords, Unread.first_unread, declared.faults.Cause.Cause, declared.faults.TextFault.TextFault}
+use Rattle.text_lines.specs.declared.{faults.Wanted.Wanted, keywords.Keyword.Keyword}
 use Rattle.text_lines.specs.Fields.{begins, end_ahead, flag_ahead, keyword_ahead, may_ahead, named_ahead, number_ahead, number_of_word, one_word}
-use Rattle.text_lines.specs.declared.faults.Cause.{Cause}
-use Rattle.text_lines.specs.declared.faults.TextFault.{TextFault}
-use Rattle.text_lines.specs.declared.faults.Wanted.{Wanted}
-use Rattle.text_lines.specs.declared.keywords.Keyword.{Keyword}
 
 -- ---- the first line
 

@@ -1,15 +1,9 @@
 -- Which texts say a script.
 use Rattle.std.specs.Prelude.{◌≡◌, ℕ, zero, suc, ◌+◌, ◌*◌, ◌^◌, ◌==◌, List, [], ◌∷◌, ◌++◌, length, map, take, drop, if◌then◌else◌, codes}
-use Rattle.region_config.specs.Configurations.{Configuration}
-use Rattle.region_config.specs.declared.region_spec.RegionSpec.{RegionSpec}
-use Rattle.text_lines.specs.script_codec.specs.Writing.{IsWritable}
-use Rattle.text_lines.specs.script_codec.specs.declared.script_line.Line.{Line}
+use Rattle.region_config.specs.{Configurations.Configuration, declared.region_spec.RegionSpec.RegionSpec}
+use Rattle.text_lines.specs.{Layouts.SaysLine, Layouts.most_32, Layouts.most_64, Parts.Form, Parts.Part, Parts.ReadsParts, Parts.key, Texts.words_of_lines, declared.actors.Frame.Frame}
+use Rattle.text_lines.specs.{declared.keywords.Keyword.Keyword, script_codec.specs.Writing.IsWritable, script_codec.specs.declared.script_line.Line.Line}
 use Rattle.text_lines.specs.script_codec.specs.declared.scripts.Script.{Script}
-use Rattle.text_lines.specs.Texts.{words_of_lines}
-use Rattle.text_lines.specs.Layouts.{SaysLine, most_32, most_64}
-use Rattle.text_lines.specs.Parts.{Form, Part, ReadsParts, key}
-use Rattle.text_lines.specs.declared.actors.Frame.{Frame}
-use Rattle.text_lines.specs.declared.keywords.Keyword.{Keyword}
 
 -- the version, and the lanes where it tells them
 abbrev pub start_parts : ℕ → ℕ → List Part

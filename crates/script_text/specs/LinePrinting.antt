@@ -4,13 +4,9 @@ use Rattle.std.specs.List.{AllByRecursion, flat_map}
 use Rattle.dcd_base.specs.declared.steps.Actor.{Actor}
 use Rattle.cci_codec.specs.declared.messages.Request.{Request}
 use Rattle.journal_core.specs.declared.acts.Act.{Act}
-use Rattle.text_lines.specs.script_codec.specs.declared.script_line.Line.{Line}
-use Rattle.text_lines.specs.Characters.{IsTextWord}
-use Rattle.text_lines.specs.Texts.{IsWordLine}
-use Rattle.text_lines.specs.Words.{line_text, spaced}
-use Rattle.text_lines.specs.Layouts.{SaysAct, SaysLine, act_parts, line_parts}
-use Rattle.text_lines.specs.Parts.{AllSay, Part, ReadsPart, ReadsParts, part_words, parts_words}
-use Rattle.text_lines.specs.declared.actors.Frame.{Frame}
+use Rattle.text_lines.specs.{Characters.IsTextWord, Layouts.SaysAct, Layouts.SaysLine, Layouts.act_parts, Layouts.line_parts}
+use Rattle.text_lines.specs.{Parts.AllSay, Parts.Part, Parts.ReadsPart, Parts.ReadsParts, Parts.part_words, Parts.parts_words, Texts.IsWordLine, Words.line_text, Words.spaced}
+use Rattle.text_lines.specs.{declared.actors.Frame.Frame, script_codec.specs.declared.script_line.Line.Line}
 
 -- The first word of a line was put at the end, and says that part.
 pub record StartsLine (old new : List ℕ) (part : Part) : Type 0 where

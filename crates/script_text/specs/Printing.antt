@@ -1,15 +1,8 @@
 -- The one text of a script, and what printing appends.
-use Rattle.std.specs.Prelude.{◌≡◌, ℕ, List, ◌++◌, map}
-use Rattle.std.specs.List.{AllByRecursion, flat_map}
-use Rattle.text_lines.specs.script_codec.specs.declared.script_line.Line.{Line}
+use Rattle.std.specs.{Prelude.◌≡◌, Prelude.ℕ, Prelude.List, Prelude.◌++◌, Prelude.map, List.AllByRecursion, List.flat_map}
+use Rattle.text_lines.specs.{Layouts.line_parts, Parts.Part, Parts.parts_words, Texts.IsWordLine, Words.line_text, declared.actors.Frame.Frame, script_codec.specs.declared.script_line.Line.Line}
 use Rattle.text_lines.specs.script_codec.specs.declared.scripts.Script.{Script}
-use Rattle.text_lines.specs.Texts.{IsWordLine}
-use Rattle.text_lines.specs.Words.{line_text}
-use Rattle.text_lines.specs.Layouts.{line_parts}
-use Rattle.text_lines.specs.Parts.{Part, parts_words}
-use Rattle.text_lines.specs.declared.actors.Frame.{Frame}
-use Rattle.script_text.specs.LinePrinting.{printed_words}
-use Rattle.script_text.specs.Layouts.{ReadsLines, SaysLines, frame_of_script, head_parts}
+use Rattle.script_text.specs.{LinePrinting.printed_words, Layouts.ReadsLines, Layouts.SaysLines, Layouts.frame_of_script, Layouts.head_parts}
 
 -- the parts of each line of the text
 abbrev pub text_parts : Script → List (List Part)

@@ -1,23 +1,9 @@
 -- Which script a text says, or its first fault.
 use Rattle.std.specs.Prelude.{◌≡◌, ◌≢◌, ℕ, ◌-◌, ◌==◌, nat_lt, Bool, List, [], ◌∷◌, ◌++◌, length, Option, Some, None, Result, Ok, Err, if◌then◌else◌}
-use Rattle.region_config.specs.Configurations.{Configuration}
-use Rattle.region_config.specs.Setups.{config_fault}
-use Rattle.region_config.specs.declared.faults.ConfigFault.{ConfigFault}
-use Rattle.region_config.specs.declared.region_spec.RegionSpec.{RegionSpec}
-use Rattle.text_lines.specs.script_codec.specs.Reading.{most_bytes, most_lines}
-use Rattle.text_lines.specs.script_codec.specs.Writing.{script_bytes}
-use Rattle.text_lines.specs.script_codec.specs.declared.heads.Head.{Head}
-use Rattle.text_lines.specs.script_codec.specs.declared.script_line.Line.{Line}
-use Rattle.text_lines.specs.script_codec.specs.declared.scripts.Script.{Script}
-use Rattle.text_lines.specs.Unread.{UnreadWords, Ahead, all_of}
-use Rattle.text_lines.specs.Chains.{◌>>!◌ as ◌>>=◌}
-use Rattle.text_lines.specs.Fields.{begins, refused}
-use Rattle.text_lines.specs.Lines.{opening_ahead, rest_ahead}
-use Rattle.text_lines.specs.declared.actors.Frame.{Frame}
-use Rattle.text_lines.specs.declared.faults.Cause.{Cause}
-use Rattle.text_lines.specs.declared.faults.TextFault.{TextFault}
-use Rattle.text_lines.specs.declared.faults.Wanted.{Wanted}
-use Rattle.text_lines.specs.declared.keywords.Keyword.{Keyword}
+use Rattle.region_config.specs.{Configurations.Configuration, Setups.config_fault, declared.faults.ConfigFault.ConfigFault, declared.region_spec.RegionSpec.RegionSpec}
+use Rattle.text_lines.specs.{Chains.◌>>!◌ as ◌>>=◌, Fields.begins, Fields.refused, Lines.opening_ahead, Lines.rest_ahead, Unread.UnreadWords, Unread.Ahead, Unread.all_of, declared.actors.Frame.Frame}
+use Rattle.text_lines.specs.declared.{faults.Cause.Cause, faults.TextFault.TextFault, faults.Wanted.Wanted, keywords.Keyword.Keyword}
+use Rattle.text_lines.specs.script_codec.specs.{Reading.most_bytes, Reading.most_lines, Writing.script_bytes, declared.heads.Head.Head, declared.script_line.Line.Line, declared.scripts.Script.Script}
 use Rattle.script_text.specs.Heads.{start_ahead, regions_at, host_lines_at}
 
 -- The call answers what the definition reads, and leaves these lines. Memory may be wanting at any time.

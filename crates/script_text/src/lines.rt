@@ -15,7 +15,9 @@ use crate::host_requests::write_host_request;
 use crate::lists::write_bytes;
 use crate::manager_requests::write_manager_request;
 use crate::naming::{named_by_host, named_by_manager};
-use crate::words::{begin_fixed, end_line, write_count, write_fixed, write_may_count, write_number};
+use crate::words::{
+    begin_fixed, end_line, write_count, write_fixed, write_may_count, write_number,
+};
 use cci_codec::{Request, encode_request, law_request_is_spelled};
 use dcd_base::{Actor, Bytes, NoMemory};
 use fm_payloads::FmRequest;

@@ -12,8 +12,8 @@ use crate::host_requests::{write_clearing, write_log, write_page};
 use crate::lists::write_extents;
 use crate::policies::{write_add_policy, write_release_flags};
 use crate::words::{
-    write_fixed, write_flag, write_host, write_may_number, write_may_tag, write_named_count, write_named_number,
-    write_tag_word,
+    write_fixed, write_flag, write_host, write_may_number, write_may_tag, write_named_count,
+    write_named_number, write_tag_word,
 };
 use dcd_base::{Bytes, Extent, NoMemory, Tag};
 use fm_payloads::FmRequest;

@@ -12,11 +12,11 @@ ghost use Rattle.text_lines.specs.Parts.{Form, Part, key};
 ghost use Rattle.text_lines.specs.declared.keywords.Keyword.{Keyword};
 ghost use Rattle.script_text.specs.LinePrinting.{AddsLine, AddsParts};
 
-use crate::write_line;
 use crate::words::{
-    begin_with, end_line, write_block_sizes, write_count, write_fixed, write_flag, write_key, write_may_count,
-    write_named_count, write_named_number, write_number,
+    begin_with, end_line, write_block_sizes, write_count, write_fixed, write_flag, write_key,
+    write_may_count, write_named_count, write_named_number, write_number,
 };
+use crate::write_line;
 use dcd_base::{Bytes, HostId, NoMemory, RegionId};
 use region_config::{Config, RegionSpec};
 use std::alloc::Global;

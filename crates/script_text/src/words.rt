@@ -9,7 +9,8 @@ ghost use Rattle.text_lines.specs.Words.{spaced};
 
 use dcd_base::{Bytes, NoMemory, Tag, is_no_tag};
 use text_lines::{
-    Keyword, law_decimal, law_size, law_sizes, law_tag, write_decimal, write_size, write_sizes, write_tag,
+    Keyword, law_decimal, law_size, law_sizes, law_tag, write_decimal, write_size, write_sizes,
+    write_tag,
 };
 
 /// Appends a space and a word.

@@ -1,21 +1,12 @@
 -- Two tests of granules that agree where a selection asks choose the same.
 use Rattle.std.proofs.Common.{◌≡◌, ℕ, zero, suc, ◌+◌, ◌-◌, ◌*◌, ◌<◌, ◌≤◌, Bool, List, [], ◌∷◌, ◌++◌, length, map, max, take, Option, Some, None, refl, ap, ◌∙◌, leb, arith, div-add-mod'}
+use Rattle.std.{proofs.Math.Nat.add-mul, proofs.Math.Nat.mul-le-mul_right, specs.List.filter, specs.List.find, specs.List.fold, specs.List.list_all, specs.List.prefix_len, specs.List.range_with_len}
 use Rattle.std.specs.Prelude.{not, option_map, option_to_list}
-use Rattle.std.specs.List.{filter, find, fold, list_all, prefix_len, range_with_len}
-use Rattle.std.proofs.Math.Nat.{add-mul, mul-le-mul_right}
-use Rattle.extent_list.specs.dcd_codes.specs.dcd_base.specs.declared.capacity.Extent.{Extent}
-use Rattle.extent_list.specs.dcd_codes.specs.dcd_base.specs.declared.ids.HostId.{HostId}
-use Rattle.extent_list.specs.dcd_codes.specs.dcd_base.specs.declared.media.Run.{Run}
-use Rattle.extent_list.specs.dcd_codes.specs.dcd_base.specs.Words.{◌or◌, is_empty}
-use Rattle.extent_list.specs.dcd_codes.specs.declared.rules.Rule.{Rule}
-use Rattle.extent_list.specs.dcd_codes.specs.Rules.{◌breaks◌, first_by}
-use Rattle.granule_map.specs.Blocks.{block_count, run_of_blocks}
-use Rattle.granule_map.specs.Choices.{joined, passing, run_from}
-use Rattle.extent_list.specs.Listing.{misplaced, overlapping, too_many_listed}
-use Rattle.extent_list.specs.media_map.specs.Places.{run_of}
-use Rattle.extent_list.specs.media_map.specs.region_config.specs.Configurations.{Configuration}
-use Rattle.extent_list.specs.media_map.specs.region_config.specs.Granules.{granule_total}
-use Rattle.extent_list.specs.media_map.specs.region_config.specs.Soundness.{IsSound}
+use Rattle.extent_list.specs.{Listing.misplaced, Listing.overlapping, Listing.too_many_listed, dcd_codes.specs.Rules.◌breaks◌, dcd_codes.specs.Rules.first_by}
+use Rattle.extent_list.specs.dcd_codes.specs.dcd_base.specs.{Words.◌or◌, Words.is_empty, declared.capacity.Extent.Extent, declared.ids.HostId.HostId, declared.media.Run.Run}
+use Rattle.extent_list.specs.{dcd_codes.specs.declared.rules.Rule.Rule, media_map.specs.Places.run_of, media_map.specs.region_config.specs.Configurations.Configuration}
+use Rattle.extent_list.specs.media_map.specs.region_config.specs.{Granules.granule_total, Soundness.IsSound}
+use Rattle.granule_map.specs.{Blocks.block_count, Blocks.run_of_blocks, Choices.joined, Choices.passing, Choices.run_from}
 use Rattle.selection.specs.Selections.{all_free, always_together, contiguous_runs, free_extent_rule, free_blocks, free_runs, granules_of_blocks, is_free_block, longest_free, prescribed_rule}
 use Rattle.selection.proofs.Placed.{placed, run_below, run_is_run}
 

@@ -1,19 +1,13 @@
 -- What the runs are that are chosen of free blocks: one behind another in the area, and made of free granules.
 use Rattle.std.proofs.Common.{◌≡◌, ℕ, zero, suc, ◌+◌, ◌-◌, ◌*◌, ◌%◌, ◌<◌, ◌≤◌, Bool, true, false, List, [], ◌∷◌, ◌++◌, length, map, take, Option, Some, None, refl, ap, subst, ◌∙◌, eqb, leb, ltb, arith, inl, inr, div-add-mod'}
-use Rattle.std.specs.Prelude.{◌&&◌, option_map, option_to_list}
-use Rattle.std.specs.List.{filter, list_all, range_with_len}
-use Rattle.std.proofs.lemmas.Bool.{and_from, and_parts, cases_Bool, eqb-true, leb-true, lt-leb, ltb-true}
-use Rattle.std.proofs.lemmas.List.{length-map, length-take-le}
-use Rattle.std.proofs.lemmas.List.Folds.{list_all-append}
-use Rattle.std.proofs.lemmas.List.FromFn.{length-range_with_len}
-use Rattle.std.proofs.lemmas.List.Sums.{prefix_len-le-length}
 use Rattle.std.proofs.Math.Nat.{add-mul, mul-le-mul_right, zero-mul}
-use Rattle.extent_list.specs.dcd_codes.specs.dcd_base.specs.declared.media.Run.{Run}
-use Rattle.extent_list.specs.dcd_codes.specs.dcd_base.specs.Words.{has_in_runs}
-use Rattle.granule_map.specs.Blocks.{block_count, run_of_blocks}
+use Rattle.std.proofs.lemmas.{Bool.and_from, Bool.and_parts, Bool.cases_Bool, Bool.eqb-true, Bool.leb-true, Bool.lt-leb, Bool.ltb-true, List.length-map, List.length-take-le}
+use Rattle.std.proofs.lemmas.List.{Folds.list_all-append, FromFn.length-range_with_len, Sums.prefix_len-le-length}
+use Rattle.std.specs.{List.filter, List.list_all, List.range_with_len, Prelude.◌&&◌, Prelude.option_map, Prelude.option_to_list}
+use Rattle.extent_list.specs.dcd_codes.specs.dcd_base.specs.{declared.media.Run.Run, Words.has_in_runs}
+use Rattle.granule_map.{proofs.Joining.lowest_found, proofs.Joining.prefix_passes, specs.Blocks.block_count, specs.Blocks.run_of_blocks}
 use Rattle.granule_map.specs.Choices.{joined, joined_onto, lowest_run, passing, run_from}
 use Rattle.selection.specs.Selections.{AreApart, AreBetween, always_together, are_free, contiguous_runs, free_runs, granules_of_blocks, is_free_block}
-use Rattle.granule_map.proofs.Joining.{lowest_found, prefix_passes}
 
 -- rising numbers between two, and runs of numbers one behind another between two
 abbrev pub NumbersBetween : ℕ → ℕ → List ℕ → Type 0

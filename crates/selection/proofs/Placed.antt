@@ -1,22 +1,15 @@
 -- An extent that is not misplaced in a region is made of granules of it.
 use Rattle.std.proofs.Common.{◌≡◌, ℕ, zero, suc, List, ◌∷◌, ◌+◌, ◌-◌, ◌*◌, ◌/◌, ◌%◌, ◌<◌, ◌≤◌, Bool, true, false, eqb, leb, ltb, length, Some, None, refl, ap, sym, subst, ◌∙◌, inl, inr, arith, div-add-mod'}
-use Rattle.std.specs.Prelude.{All, ◌&&◌}
-use Rattle.std.proofs.lemmas.Bool.{and_parts, cases_Bool, eqb-false, eqb-true, leb-true, ltb-true}
-use Rattle.std.proofs.lemmas.Option.{none-some}
 use Rattle.std.proofs.Math.Nat.{mul-mod_left, mul_assoc}
-use Rattle.extent_list.specs.dcd_codes.specs.dcd_base.specs.declared.capacity.Extent.{Extent}
-use Rattle.extent_list.specs.dcd_codes.specs.dcd_base.specs.declared.ids.HostId.{HostId}
-use Rattle.extent_list.specs.dcd_codes.specs.dcd_base.specs.declared.media.Run.{Run}
-use Rattle.extent_list.specs.dcd_codes.specs.declared.rules.Rule.{Rule}
-use Rattle.extent_list.specs.Listing.{is_aligned, lies_in_region, misplaced}
-use Rattle.extent_list.specs.media_map.specs.Places.{IsRun, is_granular, region_at, run_in, run_of}
-use Rattle.extent_list.specs.media_map.proofs.PlaceLemmas.{has}
-use Rattle.extent_list.specs.media_map.proofs.RunLemmas.{IsGranular, granular_from, is_run, region_at_is}
-use Rattle.extent_list.specs.media_map.specs.region_config.specs.Configurations.{Configuration}
+use Rattle.std.proofs.lemmas.{Bool.and_parts, Bool.cases_Bool, Bool.eqb-false, Bool.eqb-true, Bool.leb-true, Bool.ltb-true, Option.none-some}
+use Rattle.std.specs.Prelude.{All, ◌&&◌}
+use Rattle.extent_list.specs.{Listing.is_aligned, Listing.lies_in_region, Listing.misplaced, dcd_codes.specs.dcd_base.specs.declared.capacity.Extent.Extent}
+use Rattle.extent_list.specs.dcd_codes.specs.{dcd_base.specs.declared.ids.HostId.HostId, dcd_base.specs.declared.media.Run.Run, declared.rules.Rule.Rule}
+use Rattle.extent_list.specs.media_map.proofs.{PlaceLemmas.has, RunLemmas.IsGranular, RunLemmas.granular_from, RunLemmas.is_run, RunLemmas.region_at_is}
+use Rattle.extent_list.specs.media_map.specs.{Places.IsRun, Places.is_granular, Places.region_at, Places.run_in, Places.run_of, region_config.proofs.Faultless.granules_rise}
+use Rattle.extent_list.specs.media_map.specs.region_config.{proofs.GranuleLemmas.of_region, specs.Configurations.Configuration}
 use Rattle.extent_list.specs.media_map.specs.region_config.specs.Granules.{base_of, first_granule, granule_size, granule_total, region_of, region_spec}
 use Rattle.extent_list.specs.media_map.specs.region_config.specs.Soundness.{IsSound}
-use Rattle.extent_list.specs.media_map.specs.region_config.proofs.Faultless.{granules_rise}
-use Rattle.extent_list.specs.media_map.specs.region_config.proofs.GranuleLemmas.{of_region}
 
 -- The extent lies in the region, and blocks of it begin and end where the extent does.
 pub record IsPlaced (c : Configuration) (h : HostId) (r : ℕ) (x : Extent) : Type 0 where

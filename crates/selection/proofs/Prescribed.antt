@@ -1,26 +1,16 @@
 -- What the runs of a prescribed list are that breaks no rule: runs of free granules, of which no two share one.
 use Rattle.std.proofs.Common.{◌≡◌, ℕ, ◌+◌, ◌-◌, ◌*◌, ◌/◌, ◌<◌, ◌≤◌, Bool, true, false, List, [], ◌∷◌, ◌++◌, length, Option, Some, None, refl, ap, sym, subst, ◌∙◌, ◌⊎◌, inl, inr, arith, leb, ltb, append_assoc}
+use Rattle.std.{proofs.Math.Nat.add-mul, proofs.Math.Nat.mul-le-mul_right, proofs.lemmas.Iterator.Adapters.position_from-zero, proofs.lemmas.Option.none-some, specs.List.position_from}
 use Rattle.std.specs.Prelude.{All, not, option_map, position}
-use Rattle.std.specs.List.{position_from}
 use Rattle.std.proofs.lemmas.Bool.{and_from, and_parts, and_right, cases_Bool, cases_lt, false≢true, leb-true, lt-leb, lt-ltb, le-ltb, ltb-true}
-use Rattle.std.proofs.lemmas.Iterator.Adapters.{position_from-zero}
-use Rattle.std.proofs.lemmas.Option.{none-some}
-use Rattle.std.proofs.Math.Nat.{add-mul, mul-le-mul_right}
-use Rattle.extent_list.specs.dcd_codes.specs.dcd_base.specs.declared.capacity.Extent.{Extent}
-use Rattle.extent_list.specs.dcd_codes.specs.dcd_base.specs.declared.ids.HostId.{HostId}
-use Rattle.extent_list.specs.dcd_codes.specs.dcd_base.specs.declared.media.Run.{Run}
-use Rattle.extent_list.specs.dcd_codes.specs.dcd_base.specs.Words.{◌or◌, has_granule, has_in_runs, is_empty}
-use Rattle.extent_list.specs.dcd_codes.specs.declared.rules.Rule.{Rule}
+use Rattle.extent_list.specs.{ExtentLists.overlaps, Listing.misplaced, Listing.overlapping, Listing.too_many_listed}
 use Rattle.extent_list.specs.dcd_codes.specs.Rules.{◌breaks◌, each_in, first_by}
-use Rattle.extent_list.specs.ExtentLists.{overlaps}
-use Rattle.extent_list.specs.Listing.{misplaced, overlapping, too_many_listed}
-use Rattle.extent_list.specs.media_map.specs.Places.{IsRun, run_of}
-use Rattle.extent_list.specs.media_map.specs.region_config.specs.Configurations.{Configuration}
-use Rattle.extent_list.specs.media_map.specs.region_config.specs.Granules.{base_of, first_granule, granule_size}
-use Rattle.extent_list.specs.media_map.specs.region_config.specs.Soundness.{IsSound}
-use Rattle.extent_list.specs.media_map.specs.region_config.proofs.Faultless.{granule_from}
-use Rattle.selection.specs.Selections.{AreApart, all_free, are_free, free_extent_rule, listed_runs, prescribed_rule}
+use Rattle.extent_list.specs.dcd_codes.specs.dcd_base.specs.{Words.◌or◌, Words.has_granule, Words.has_in_runs, Words.is_empty, declared.capacity.Extent.Extent, declared.ids.HostId.HostId}
+use Rattle.extent_list.specs.{dcd_codes.specs.dcd_base.specs.declared.media.Run.Run, dcd_codes.specs.declared.rules.Rule.Rule, media_map.specs.Places.IsRun, media_map.specs.Places.run_of}
+use Rattle.extent_list.specs.media_map.specs.region_config.{proofs.Faultless.granule_from, specs.Configurations.Configuration}
+use Rattle.extent_list.specs.media_map.specs.region_config.specs.{Granules.base_of, Granules.first_granule, Granules.granule_size, Soundness.IsSound}
 use Rattle.selection.proofs.Placed.{IsPlaced, all_cons, bytes_of, its_run, placed, run_is_run, starts_at}
+use Rattle.selection.specs.Selections.{AreApart, all_free, are_free, free_extent_rule, listed_runs, prescribed_rule}
 
 -- neither of two rules is broken
 pub neither : (a b : Option Rule) → (a or b) ≡ None → (a ≡ None) × (b ≡ None)

@@ -1,12 +1,7 @@
 -- What the policies Free and Contiguous answer: the rule that is broken, or the runs that they pick.
-use Rattle.std.specs.declared.result.Result.{Result}
-use Rattle.std.specs.Prelude.{◌≡◌, ℕ, List}
-use Rattle.extent_list.specs.dcd_codes.specs.dcd_base.specs.declared.media.Run.{Run}
-use Rattle.extent_list.specs.dcd_codes.specs.Rules.{ByRow}
-use Rattle.extent_list.specs.dcd_codes.specs.declared.refusals.Refusal.{Refusal}
-use Rattle.granule_map.specs.Blocks.{free_block_count, longest_free_run}
-use Rattle.granule_map.specs.StateLists.{is_free_at}
-use Rattle.granule_map.specs.declared.states.GranuleState.{GranuleState}
+use Rattle.std.specs.{declared.result.Result.Result, Prelude.◌≡◌, Prelude.ℕ, Prelude.List}
+use Rattle.extent_list.specs.dcd_codes.specs.{dcd_base.specs.declared.media.Run.Run, Rules.ByRow, declared.refusals.Refusal.Refusal}
+use Rattle.granule_map.specs.{Blocks.free_block_count, Blocks.longest_free_run, StateLists.is_free_at, declared.states.GranuleState.GranuleState}
 use Rattle.selection.specs.Selections.{contiguous_runs, free_runs, too_few_free}
 
 -- Free: the lowest free blocks of the area.

@@ -1,17 +1,11 @@
 -- Which blocks an offer is made of, and which rules a selection keeps. `free` tells whether a granule is free.
 use Rattle.std.specs.Prelude.{◌≡◌, ℕ, ◌+◌, ◌-◌, ◌*◌, ◌<◌, ◌≤◌, Bool, IsTrue, IsFalse, true, not, nat_lt, List, [], ◌∷◌, map, take, Option, length, Some, None, option_map, option_to_list}
 use Rattle.std.specs.List.{list_all, range_with_len}
-use Rattle.extent_list.specs.dcd_codes.specs.dcd_base.specs.Words.{◌or◌, has_granule, has_in_runs, is_empty}
-use Rattle.extent_list.specs.dcd_codes.specs.dcd_base.specs.declared.capacity.Extent.{Extent}
-use Rattle.extent_list.specs.dcd_codes.specs.dcd_base.specs.declared.ids.HostId.{HostId}
-use Rattle.extent_list.specs.dcd_codes.specs.dcd_base.specs.declared.media.Run.{Run}
-use Rattle.extent_list.specs.dcd_codes.specs.declared.rules.Rule.{Rule}
-use Rattle.extent_list.specs.dcd_codes.specs.Rules.{◌breaks◌, each_in}
-use Rattle.granule_map.specs.Blocks.{block_count, run_of_blocks}
-use Rattle.granule_map.specs.Choices.{joined, longest_run, lowest_from, lowest_run, passing}
-use Rattle.extent_list.specs.Listing.{misplaced, overlapping, too_many_listed}
-use Rattle.extent_list.specs.media_map.specs.Places.{run_of}
+use Rattle.extent_list.specs.{Listing.misplaced, Listing.overlapping, Listing.too_many_listed, dcd_codes.specs.Rules.◌breaks◌, dcd_codes.specs.Rules.each_in}
+use Rattle.extent_list.specs.dcd_codes.specs.dcd_base.specs.{Words.◌or◌, Words.has_granule, Words.has_in_runs, Words.is_empty, declared.capacity.Extent.Extent, declared.ids.HostId.HostId}
+use Rattle.extent_list.specs.{dcd_codes.specs.dcd_base.specs.declared.media.Run.Run, dcd_codes.specs.declared.rules.Rule.Rule, media_map.specs.Places.run_of}
 use Rattle.extent_list.specs.media_map.specs.region_config.specs.Configurations.{Configuration}
+use Rattle.granule_map.specs.{Blocks.block_count, Blocks.run_of_blocks, Choices.joined, Choices.longest_run, Choices.lowest_from, Choices.lowest_run, Choices.passing}
 
 -- a block of the area, by its number, is free where all its granules are
 abbrev pub is_free_block : (ℕ → Bool) → Run → ℕ → ℕ → Bool

@@ -1,27 +1,14 @@
 -- A load or a store of a shard that is right is answered as the journal before it says.
 use Rattle.std.proofs.Common.{◌≡◌, ℕ, ◌%◌, ◌<◌, Bool, true, false, List, [], refl, ◌∙◌}
-use Rattle.std.specs.Prelude.{IfOk, IsTrue, if◌then◌else◌}
-use Rattle.std.specs.declared.result.Result.{Result}
+use Rattle.std.{proofs.lemmas.Bool.lt-ltb, specs.Prelude.IfOk, specs.Prelude.IsTrue, specs.Prelude.if◌then◌else◌, specs.declared.result.Result.Result}
 use Rattle.std.specs.declared.result.Result.TheVariants.{Ok, Err}
-use Rattle.std.proofs.lemmas.Bool.{lt-ltb}
-use Rattle.dcd_base.specs.Hosts.{has_host}
-use Rattle.dcd_base.specs.declared.failures.AccessFault.{AccessFault}
-use Rattle.dcd_base.specs.declared.ids.HostId.{HostId}
-use Rattle.dcd_base.specs.declared.media.Place.{Place}
-use Rattle.dcd_base.specs.declared.steps.Actor.{Actor}
+use Rattle.dcd_base.specs.{Hosts.has_host, declared.failures.AccessFault.AccessFault, declared.ids.HostId.HostId, declared.media.Place.Place, declared.steps.Actor.Actor}
 use Rattle.device_rules.specs.Legal.{access_at, right_answer, word_of}
-use Rattle.journal_core.specs.declared.acts.Act.{Act}
-use Rattle.journal_core.specs.declared.acts.Reply.{Reply}
-use Rattle.journal_core.specs.declared.entries.Entry.{Entry}
-use Rattle.journal_core.specs.Entries.{effects, fits, is_control}
-use Rattle.journal_core.specs.Holders.{holds}
+use Rattle.journal_core.specs.{declared.acts.Act.Act, declared.acts.Reply.Reply, declared.entries.Entry.Entry, Entries.effects, Entries.fits, Entries.is_control, Holders.holds}
 use Rattle.media_map.specs.Places.{locate}
-use Rattle.region_config.specs.Configurations.{Configuration}
-use Rattle.region_config.specs.Granules.{granule_total}
-use Rattle.shard_laws.specs.Accessing.{said_at, stripe_reply}
-use Rattle.shard_laws.specs.Belonging.{asked_at, shard_at}
+use Rattle.region_config.specs.{Configurations.Configuration, Granules.granule_total}
+use Rattle.shard_laws.{proofs.LeftOut.not_both, specs.Accessing.said_at, specs.Accessing.stripe_reply, specs.Belonging.asked_at, specs.Belonging.shard_at}
 use Rattle.shard_laws.specs.Stripes.{Stripe, holders_at, stripe_word}
-use Rattle.shard_laws.proofs.LeftOut.{not_both}
 
 -- where holders and words of the shard are those of a journal
 pub replies : (c : Configuration) (x : Stripe) (before : List Entry) (h : HostId) (act : Act) (r : Result Place AccessFault) → is_control act ≡ false → IfOk r (λ (p : Place). p.granule < granule_total c) →

@@ -1,40 +1,22 @@
 -- A shard after one more load or store, which is put behind all that is not later.
 use Rattle.std.proofs.Common.{◌≡◌, ⊎_elim, ℕ, ◌<◌, ◌≤◌, ◌/◌, ◌%◌, true, false, List, [], ◌∷◌, ◌++◌, sym, ap, ◌∙◌, subst, append-nil, append_assoc, arith}
-use Rattle.std.specs.Prelude.{All, IsTrue, slice_index, if◌then◌else◌}
-use Rattle.std.specs.List.{list_any}
-use Rattle.std.proofs.lemmas.List.Elements.{All-head, All-push, All-tail, All-weaker}
-use Rattle.std.proofs.lemmas.List.Sums.{fold-append}
+use Rattle.std.proofs.lemmas.List.{Elements.All-head, Elements.All-push, Elements.All-tail, Elements.All-weaker, Sums.fold-append}
+use Rattle.std.specs.{List.list_any, Prelude.All, Prelude.IsTrue, Prelude.slice_index, Prelude.if◌then◌else◌}
 use mathlib.Core.Option.{some}
 use lib.ListN.{get_elem?}
-use Rattle.dcd_base.specs.declared.ids.HostId.{HostId}
-use Rattle.dcd_base.specs.declared.steps.Actor.{Actor}
-use Rattle.dcd_base.specs.declared.steps.Stamp.{Stamp}
+use Rattle.dcd_base.specs.declared.{ids.HostId.HostId, steps.Actor.Actor, steps.Stamp.Stamp}
 use Rattle.device_rules.specs.Legal.{Meets, access_at, is_zeroing, right_answer, word_after, word_by, word_of}
+use Rattle.journal_core.proofs.{EachSteps.Each-front, HoldingSteps.holds-append, Inserting.IsPut, Inserting.insert_entry-put, JournalSteps.effects-append, MergedFilters.merged-all}
+use Rattle.journal_core.proofs.{Merges.merged-rising, Pushing.merged-shard_push, Splits.all_at, Splits.all_behind, Splits.all_both, Splits.all_from_places}
+use Rattle.journal_core.specs.{Entries.Each, Entries.EachFrom, Entries.effects, Entries.fits, Entries.is_control, Holders.holds, Merging.insert_entry, Merging.is_later, Merging.merged}
 use Rattle.journal_core.specs.declared.entries.Entry.{Entry}
-use Rattle.journal_core.specs.Entries.{Each, EachFrom, effects, fits, is_control}
-use Rattle.journal_core.specs.Holders.{holds}
-use Rattle.journal_core.specs.Merging.{insert_entry, is_later, merged}
-use Rattle.journal_core.proofs.EachSteps.{Each-front}
-use Rattle.journal_core.proofs.HoldingSteps.{holds-append}
-use Rattle.journal_core.proofs.Inserting.{IsPut, insert_entry-put}
-use Rattle.journal_core.proofs.JournalSteps.{effects-append}
-use Rattle.journal_core.proofs.MergedFilters.{merged-all}
-use Rattle.journal_core.proofs.Merges.{merged-rising}
-use Rattle.journal_core.proofs.Pushing.{merged-shard_push}
-use Rattle.journal_core.proofs.Splits.{all_at, all_behind, all_both, all_from_places}
 use Rattle.media_map.specs.Places.{locate}
 use Rattle.region_config.specs.Configurations.{Configuration}
-use Rattle.ruled_cells.specs.Laws.{AccessKeeps}
-use Rattle.ruled_cells.specs.Stamps.{Below, IsControlLog}
-use Rattle.shard_laws.specs.Accessing.{IsAccess}
-use Rattle.shard_laws.specs.Belonging.{asked_at, shard_at, shard_by, touches_shard}
-use Rattle.shard_laws.specs.Right.{AccessMeets, IsRight, IsRightBy}
+use Rattle.ruled_cells.specs.{Laws.AccessKeeps, Stamps.Below, Stamps.IsControlLog}
+use Rattle.shard_laws.proofs.{AccessReplies.accessed, AccessReplies.may_access, AccessReplies.replies, ControlLogs.effects_of_both, ControlLogs.flat_one, LeftOut.not_both}
+use Rattle.shard_laws.proofs.{NextStamps.later_number, NextStamps.later_than, NextStamps.one_way, Untouched.LeavesShard, Untouched.holders_left, Untouched.words_left}
+use Rattle.shard_laws.specs.{Accessing.IsAccess, Belonging.asked_at, Belonging.shard_at, Belonging.shard_by, Belonging.touches_shard, Right.AccessMeets, Right.IsRight, Right.IsRightBy}
 use Rattle.shard_laws.specs.Stripes.{Stripe, holders_at, stripe_word}
-use Rattle.shard_laws.proofs.AccessReplies.{accessed, may_access, replies}
-use Rattle.shard_laws.proofs.ControlLogs.{effects_of_both, flat_one}
-use Rattle.shard_laws.proofs.LeftOut.{not_both}
-use Rattle.shard_laws.proofs.NextStamps.{later_number, later_than, one_way}
-use Rattle.shard_laws.proofs.Untouched.{LeavesShard, holders_left, words_left}
 
 each_then : (before front rest : List Entry) (P : List Entry → Entry → Type 0) → EachFrom before P front → EachFrom (before ++ front) P rest → EachFrom before P (front ++ rest)
 each_then before [] rest P first next = subst (λ b. EachFrom b P rest) (append-nil before) next

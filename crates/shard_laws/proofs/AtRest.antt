@@ -3,18 +3,9 @@ use Rattle.std.proofs.Common.{◌≡◌, inl, inr, ℕ, zero, suc, ◌<◌, ◌�
 use Rattle.std.proofs.lemmas.Bool.{cases_lt}
 use mathlib.Core.Option.{some}
 use lib.ListN.{get_elem?}
-use Rattle.journal_core.specs.declared.entries.Entry.{Entry}
-use Rattle.journal_core.specs.Entries.{Each, is_control}
-use Rattle.journal_core.specs.Merging.{Rising, merged}
-use Rattle.journal_core.proofs.Splits.{all_from_places}
-use Rattle.ruled_cells.specs.declared.about.About.{About}
-use Rattle.ruled_cells.specs.Reads.{ChiefReads}
-use Rattle.ruled_cells.specs.Stamps.{Rise}
-use Rattle.shard_laws.specs.Belonging.{shard_in}
-use Rattle.shard_laws.specs.Owed.{RestsLawful}
-use Rattle.shard_laws.specs.Right.{AccessMeets}
-use Rattle.shard_laws.specs.Stripes.{Stripe}
-use Rattle.shard_laws.proofs.NextStamps.{below_not_later}
+use Rattle.journal_core.{specs.declared.entries.Entry.Entry, specs.Entries.Each, specs.Entries.is_control, specs.Merging.Rising, specs.Merging.merged, proofs.Splits.all_from_places}
+use Rattle.ruled_cells.specs.{declared.about.About.About, Reads.ChiefReads, Stamps.Rise}
+use Rattle.shard_laws.{specs.Belonging.shard_in, specs.Owed.RestsLawful, specs.Right.AccessMeets, specs.Stripes.Stripe, proofs.NextStamps.below_not_later}
 
 at_get : (entries : List Entry) (k : ℕ) (d : Entry) → k < length entries → get_elem? entries k ≡ some (get_or entries k d)
 at_get [] k d under = absurd (omega (arith, under))

@@ -1,14 +1,8 @@
 -- Changes of an entry do to a shard that is right what its effects say.
-use Rattle.std.proofs.Common.{ℕ, List, sym, ap, ◌∙◌}
-use Rattle.std.specs.Prelude.{fold, if◌then◌else◌}
-use Rattle.dcd_base.specs.Hosts.{has_host}
-use Rattle.dcd_base.specs.declared.media.Change.{Change}
-use Rattle.journal_core.specs.declared.entries.Entry.{Entry}
-use Rattle.journal_core.specs.Entries.{effects}
-use Rattle.journal_core.specs.Holders.{holding_after}
-use Rattle.journal_core.proofs.HoldingSteps.{holds-append}
-use Rattle.shard_laws.specs.Owed.{FollowsEffects}
-use Rattle.shard_laws.specs.Stripes.{Stripe, holders_at, stripe_word}
+use Rattle.std.{proofs.Common.ℕ, proofs.Common.List, proofs.Common.sym, proofs.Common.ap, proofs.Common.◌∙◌, specs.Prelude.fold, specs.Prelude.if◌then◌else◌}
+use Rattle.dcd_base.specs.{Hosts.has_host, declared.media.Change.Change}
+use Rattle.journal_core.{specs.declared.entries.Entry.Entry, specs.Entries.effects, specs.Holders.holding_after, proofs.HoldingSteps.holds-append}
+use Rattle.shard_laws.specs.{Owed.FollowsEffects, Stripes.Stripe, Stripes.holders_at, Stripes.stripe_word}
 
 pub follows_effects : (k : ℕ) (x y : Stripe) (log : List Entry) (e : Entry) (changes : List Change) → FollowsEffects k x y log e changes
 follows_effects k x y log e changes right are stamp made = record {

@@ -1,36 +1,18 @@
 -- A shard after one more command or scrub, whether it touches the shard or not.
 use Rattle.std.proofs.Common.{◌≡◌, inl, ℕ, ◌+◌, ◌<◌, ◌%◌, true, false, List, [], ◌∷◌, ◌++◌, length, sym, ap, ◌∙◌, subst, arith}
+use Rattle.std.{proofs.lemmas.List.Elements.All-push, proofs.lemmas.List.Elements.All-weaker, proofs.lemmas.List.Sums.fold_push, specs.List.list_any}
 use Rattle.std.specs.Prelude.{fold, All, IsFalse, if◌then◌else◌}
-use Rattle.std.specs.List.{list_any}
-use Rattle.std.proofs.lemmas.List.Elements.{All-push, All-weaker}
-use Rattle.std.proofs.lemmas.List.Sums.{fold_push}
 use mathlib.Core.Option.{some}
 use lib.ListN.{get_elem?}
-use Rattle.dcd_base.specs.Hosts.{has_host}
-use Rattle.dcd_base.specs.declared.ids.HostId.{HostId}
-use Rattle.dcd_base.specs.declared.steps.Stamp.{Stamp}
+use Rattle.dcd_base.specs.{Hosts.has_host, declared.ids.HostId.HostId, declared.steps.Stamp.Stamp}
 use Rattle.device_rules.specs.Legal.{is_zeroing, word_after, word_of}
-use Rattle.journal_core.specs.declared.entries.Entry.{Entry}
-use Rattle.journal_core.specs.Entries.{Each, effects, is_control}
-use Rattle.journal_core.specs.Holders.{holding_after, holds}
-use Rattle.journal_core.specs.Merging.{is_later, merged}
-use Rattle.journal_core.proofs.EachSteps.{Each-push}
-use Rattle.journal_core.proofs.HoldingSteps.{holds-append}
-use Rattle.journal_core.proofs.JournalSteps.{effects-push}
-use Rattle.journal_core.proofs.Pushing.{merged-control_last}
-use Rattle.journal_core.proofs.Splits.{all_from_places}
-use Rattle.region_config.specs.Configurations.{Configuration}
-use Rattle.region_config.specs.Granules.{granule_total}
-use Rattle.ruled_cells.specs.Laws.{ChangeMakes, Stays}
-use Rattle.ruled_cells.specs.Stamps.{Below, IsControlLog}
-use Rattle.shard_laws.specs.Belonging.{touches_shard}
-use Rattle.shard_laws.specs.Changing.{ChangedBy}
-use Rattle.shard_laws.specs.Right.{AccessMeets, IsRight, IsRightBy}
-use Rattle.shard_laws.specs.Stripes.{Stripe, holders_at, stripe_word}
-use Rattle.shard_laws.proofs.ControlLogs.{last_of_control, none_later}
-use Rattle.shard_laws.proofs.LeftOut.{not_both, stores_nothing}
-use Rattle.shard_laws.proofs.NextStamps.{later_than, number_low}
-use Rattle.shard_laws.proofs.Untouched.{held_still, not_zeroed}
+use Rattle.journal_core.proofs.{EachSteps.Each-push, HoldingSteps.holds-append, JournalSteps.effects-push, Pushing.merged-control_last, Splits.all_from_places}
+use Rattle.journal_core.specs.{Entries.Each, Entries.effects, Entries.is_control, Holders.holding_after, Holders.holds, Merging.is_later, Merging.merged, declared.entries.Entry.Entry}
+use Rattle.region_config.specs.{Configurations.Configuration, Granules.granule_total}
+use Rattle.ruled_cells.specs.{Laws.ChangeMakes, Laws.Stays, Stamps.Below, Stamps.IsControlLog}
+use Rattle.shard_laws.proofs.{ControlLogs.last_of_control, ControlLogs.none_later, LeftOut.not_both, LeftOut.stores_nothing, NextStamps.later_than, NextStamps.number_low}
+use Rattle.shard_laws.{proofs.Untouched.held_still, proofs.Untouched.not_zeroed, specs.Belonging.touches_shard, specs.Changing.ChangedBy}
+use Rattle.shard_laws.specs.{Right.AccessMeets, Right.IsRight, Right.IsRightBy, Stripes.Stripe, Stripes.holders_at, Stripes.stripe_word}
 
 -- no command above the clock touches the shard
 abbrev QuietAbove : ℕ → Stamp → Entry → Type 0

@@ -1,18 +1,13 @@
 -- The journal of a control, and the merge of it and of lists of loads and stores.
 use Rattle.std.proofs.Common.{◌≡◌, ℕ, suc, ◌+◌, true, false, List, [], ◌∷◌, ◌++◌, length, refl, sym, ap, ◌∙◌, arith}
-use Rattle.std.specs.Prelude.{flat_map, All, IsFalse}
-use Rattle.std.specs.List.{filter}
-use Rattle.std.proofs.lemmas.List.Elements.{All-append, All-nil, All-weaker, filter-append}
-use Rattle.std.proofs.lemmas.List.Kept.{AllPairs-cons}
+use Rattle.std.proofs.lemmas.List.{Elements.All-append, Elements.All-nil, Elements.All-weaker, Elements.filter-append, Kept.AllPairs-cons}
+use Rattle.std.specs.{List.filter, Prelude.flat_map, Prelude.All, Prelude.IsFalse}
 use mathlib.Core.Option.{some}
 use lib.ListN.{get_elem?}
 use Rattle.dcd_base.specs.declared.steps.Stamp.{Stamp}
-use Rattle.journal_core.specs.declared.entries.Entry.{Entry}
-use Rattle.journal_core.specs.Entries.{effects, is_control}
-use Rattle.journal_core.specs.Merging.{Rising, is_later, merged}
-use Rattle.journal_core.proofs.Filters.{filter_empty, filter_whole}
-use Rattle.journal_core.proofs.MergedFilters.{merged-all, merged-alone, merged-filter}
-use Rattle.journal_core.proofs.Splits.{all_from_places, at_length, pairs_before}
+use Rattle.journal_core.proofs.{Filters.filter_empty, Filters.filter_whole, MergedFilters.merged-all, MergedFilters.merged-alone, MergedFilters.merged-filter}
+use Rattle.journal_core.{proofs.Splits.all_from_places, proofs.Splits.at_length, proofs.Splits.pairs_before, specs.Entries.effects, specs.Entries.is_control}
+use Rattle.journal_core.specs.{Merging.Rising, Merging.is_later, Merging.merged, declared.entries.Entry.Entry}
 use Rattle.ruled_cells.specs.Stamps.{IsControlLog, stamp}
 use Rattle.shard_laws.proofs.LeftOut.{effects_kept, not_both}
 

@@ -1,24 +1,13 @@
 -- What stays the same where loads and stores, which have no effects, are left out of a journal.
 use Rattle.std.proofs.Common.{◌≡◌, ◌≢◌, inl, inr, ℕ, ◌+◌, ◌%◌, Bool, true, false, ◌&&◌, ◌==◌, List, [], ◌∷◌, ◌++◌, refl, sym, ap, ◌∙◌, ne_eqb}
-use Rattle.std.specs.Prelude.{fold, All, IsTrue, if◌then◌else◌}
-use Rattle.std.specs.List.{filter, list_any}
-use Rattle.std.specs.declared.result.Result.{Result}
+use Rattle.std.proofs.lemmas.{Bool.cases_Bool, Bool.true≢false, List.Elements.All-head, List.Elements.All-tail, List.Elements.All-weaker}
+use Rattle.std.specs.{List.filter, List.list_any, Prelude.fold, Prelude.All, Prelude.IsTrue, Prelude.if◌then◌else◌, declared.result.Result.Result}
 use Rattle.std.specs.declared.result.Result.TheVariants.{Ok, Err}
-use Rattle.std.proofs.lemmas.Bool.{cases_Bool, true≢false}
-use Rattle.std.proofs.lemmas.List.Elements.{All-head, All-tail, All-weaker}
-use Rattle.dcd_base.specs.declared.failures.AccessFault.{AccessFault}
-use Rattle.dcd_base.specs.declared.ids.HostId.{HostId}
-use Rattle.dcd_base.specs.declared.media.Place.{Place}
-use Rattle.dcd_base.specs.declared.steps.Actor.{Actor}
-use Rattle.device_rules.specs.Hosts.{changes_of, moves}
+use Rattle.dcd_base.specs.declared.{failures.AccessFault.AccessFault, ids.HostId.HostId, media.Place.Place, steps.Actor.Actor}
+use Rattle.device_rules.{proofs.Answered.answer_same, specs.Hosts.changes_of, specs.Hosts.moves}
 use Rattle.device_rules.specs.Legal.{Meets, access_at, right_answer, stored_at, word_by, word_of, written_by}
-use Rattle.device_rules.proofs.Answered.{answer_same}
-use Rattle.journal_core.specs.declared.acts.Act.{Act}
-use Rattle.journal_core.specs.declared.acts.Reply.{Reply}
-use Rattle.journal_core.specs.declared.entries.Entry.{Entry}
-use Rattle.journal_core.specs.Entries.{effects, fits, is_control}
-use Rattle.journal_core.specs.Holders.{holds}
-use Rattle.journal_core.proofs.Filters.{filter_dropped, filter_kept}
+use Rattle.journal_core.{proofs.Filters.filter_dropped, proofs.Filters.filter_kept, specs.Entries.effects, specs.Entries.fits, specs.Entries.is_control, specs.Holders.holds}
+use Rattle.journal_core.specs.declared.{acts.Act.Act, acts.Reply.Reply, entries.Entry.Entry}
 use Rattle.media_map.specs.Places.{locate}
 use Rattle.region_config.specs.Configurations.{Configuration}
 use Rattle.shard_laws.specs.Belonging.{shard_at, shard_by}

@@ -1,24 +1,16 @@
 -- Each entry of a merge meets what stands before it, since it does so in the merge of the control and its own shard.
 use Rattle.std.proofs.Common.{◌≡◌, inl, inr, ℕ, ◌%◌, Bool, true, false, ◌||◌, ◌==◌, List, [], ◌∷◌, ◌++◌, refl, sym, ap, ◌∙◌, subst, eq-eqb, arith}
+use Rattle.std.{proofs.lemmas.Bool.cases_Bool, proofs.lemmas.Bool.eqb-false, proofs.lemmas.Bool.or_parts, proofs.lemmas.List.Elements.All-weaker, specs.List.filter, specs.List.list_any}
 use Rattle.std.specs.Prelude.{All, if◌then◌else◌}
-use Rattle.std.specs.List.{filter, list_any}
-use Rattle.std.proofs.lemmas.Bool.{cases_Bool, eqb-false, or_parts}
-use Rattle.std.proofs.lemmas.List.Elements.{All-weaker}
 use Rattle.device_rules.specs.Legal.{Legal, Meets, is_zeroing, word_after, word_by, word_of}
-use Rattle.journal_core.specs.declared.entries.Entry.{Entry}
-use Rattle.journal_core.specs.Entries.{is_control}
-use Rattle.journal_core.specs.Merging.{merged}
-use Rattle.journal_core.proofs.EachPlaces.{Each-at, Each-from_places}
-use Rattle.journal_core.proofs.Filters.{filter_split}
-use Rattle.journal_core.proofs.Splits.{all_before, all_behind}
+use Rattle.journal_core.{proofs.EachPlaces.Each-at, proofs.EachPlaces.Each-from_places, proofs.Filters.filter_split, proofs.Splits.all_before, proofs.Splits.all_behind, specs.Entries.is_control}
+use Rattle.journal_core.specs.{Merging.merged, declared.entries.Entry.Entry}
 use Rattle.region_config.specs.Configurations.{Configuration}
 use Rattle.ruled_cells.specs.Stamps.{IsControlLog}
-use Rattle.shard_laws.specs.Belonging.{shard_by, shard_in}
-use Rattle.shard_laws.specs.Lawful.{AreShardLogs}
-use Rattle.shard_laws.specs.Right.{AccessMeets}
 use Rattle.shard_laws.proofs.ControlLogs.{IsAccessEntry, control_of_merged}
 use Rattle.shard_laws.proofs.LeftOut.{access_answered, changes_kept, command_answered, effects_kept, fold_kept, meets_too, word_elsewhere}
 use Rattle.shard_laws.proofs.ShardParts.{HasShard, all_accesses, each_has_shard, is_of, part_of_merged, plain_accesses}
+use Rattle.shard_laws.specs.{Belonging.shard_by, Belonging.shard_in, Lawful.AreShardLogs, Right.AccessMeets}
 
 -- a load or a store has no effects
 abbrev IsQuiet : Entry → Type 0

@@ -1,9 +1,6 @@
 -- What a load or a store and a change are to the cells.
 use Rattle.ruled_cells.specs.Laws.{AccessEnters, ChangeIs}
-use Rattle.shard_laws.specs.Accessing.{IsAccess}
-use Rattle.shard_laws.specs.Belonging.{Belongs}
-use Rattle.shard_laws.specs.Changing.{ChangedBy}
-use Rattle.shard_laws.specs.Stripes.{Stripe}
+use Rattle.shard_laws.specs.{Accessing.IsAccess, Belonging.Belongs, Changing.ChangedBy, Stripes.Stripe}
 
 pub stripe_enters : AccessEnters (λ (x : Stripe). x.config) (λ x. x.entries) (λ x. x.clock) Belongs IsAccess
 stripe_enters k seat actor x y a = record {

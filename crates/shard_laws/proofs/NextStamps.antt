@@ -1,8 +1,7 @@
 -- The stamp of the next load or store, and stamps that are later than others.
 use Rattle.std.proofs.Common.{◌≡◌, ◌⊎◌, inl, inr, ◌<◌, ◌≤◌, true, false, ◌&&◌, ◌==◌, arith}
-use Rattle.std.specs.Prelude.{IsFalse, nat_lt}
+use Rattle.std.{specs.Prelude.IsFalse, specs.Prelude.nat_lt, proofs.lemmas.Bool.Decides.nat_tests}
 use Rattle.std.proofs.lemmas.Bool.{and_cases, and_parts, cases_Bool, cases_lt, eqb-false, eqb-true, ltb-false, ltb-true, or_cases, or_parts}
-use Rattle.std.proofs.lemmas.Bool.Decides.{nat_tests}
 use Rattle.dcd_base.specs.declared.steps.Stamp.{Stamp}
 use Rattle.journal_core.specs.Merging.{is_later}
 use Rattle.ruled_cells.specs.Stamps.{Below}

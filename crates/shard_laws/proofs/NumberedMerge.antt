@@ -1,26 +1,16 @@
 -- The merge of the control and the shards is numbered.
 use Rattle.std.proofs.Common.{◌≡◌, inl, inr, ℕ, ◌+◌, ◌<◌, ◌≤◌, true, false, cond, ◌&&◌, ◌==◌, List, [], ◌∷◌, ◌++◌, length, sym, ap, ◌∙◌, subst, length-append, eq-eqb, leb, arith}
-use Rattle.std.specs.Prelude.{All, IsFalse}
-use Rattle.std.specs.List.{filter}
-use Rattle.std.proofs.lemmas.Bool.{and_from, cases_Bool, cases_order, le-leb}
-use Rattle.std.proofs.lemmas.Bool.Decides.{nat_tests}
-use Rattle.std.proofs.lemmas.List.Elements.{All-filter, All-weaker, filter-append}
-use Rattle.std.proofs.lemmas.List.Sums.{length-filter}
+use Rattle.std.proofs.lemmas.{Bool.and_from, Bool.cases_Bool, Bool.cases_order, Bool.le-leb, Bool.Decides.nat_tests, List.Elements.All-filter, List.Elements.All-weaker, List.Elements.filter-append}
+use Rattle.std.{proofs.lemmas.List.Sums.length-filter, specs.List.filter, specs.Prelude.All, specs.Prelude.IsFalse}
 use mathlib.Core.Option.{some}
 use lib.ListN.{get_elem?}
 use Rattle.dcd_base.specs.declared.steps.Stamp.{Stamp}
-use Rattle.journal_core.specs.declared.entries.Entry.{Entry}
-use Rattle.journal_core.specs.Entries.{is_control}
-use Rattle.journal_core.specs.Merging.{IsStamped, Numbered, Rising, commands_in, is_later, merged}
-use Rattle.journal_core.proofs.EachPlaces.{Each-from_places}
-use Rattle.journal_core.proofs.Filters.{all_flat}
-use Rattle.journal_core.proofs.Merges.{merged-rising}
+use Rattle.journal_core.proofs.{EachPlaces.Each-from_places, Filters.all_flat, Merges.merged-rising}
 use Rattle.journal_core.proofs.Splits.{all_at, all_behind, all_both, at_in_front, at_length, at_some, pairs_before, pairs_behind}
+use Rattle.journal_core.specs.{Entries.is_control, Merging.IsStamped, Merging.Numbered, Merging.Rising, Merging.commands_in, Merging.is_later, Merging.merged, declared.entries.Entry.Entry}
 use Rattle.region_config.specs.Configurations.{Configuration}
 use Rattle.ruled_cells.specs.Stamps.{IsControlLog, stamp}
-use Rattle.shard_laws.specs.Lawful.{AreShardLogs}
-use Rattle.shard_laws.proofs.ControlLogs.{IsAccessEntry, control_of_merged, merged_accesses}
-use Rattle.shard_laws.proofs.ShardParts.{all_accesses}
+use Rattle.shard_laws.{specs.Lawful.AreShardLogs, proofs.ControlLogs.IsAccessEntry, proofs.ControlLogs.control_of_merged, proofs.ControlLogs.merged_accesses, proofs.ShardParts.all_accesses}
 
 -- a command or a scrub that is not later than an access is not above it
 at_most : (s t : Stamp) (k : ℕ) → s ≡ stamp (k + 1) 0 → IsFalse (is_later s t) → k + 1 ≤ t.number

@@ -1,12 +1,9 @@
 -- The granules of a shard, by their numbers in the device and in the shard.
 use Rattle.std.proofs.Common.{◌≡◌, inl, inr, ℕ, ◌+◌, ◌-◌, ◌/◌, ◌%◌, false, ◌&&◌, ◌==◌, sym, ap, ◌∙◌, arith}
-use Rattle.std.specs.Prelude.{nat_le, nat_lt}
+use Rattle.std.{specs.Prelude.nat_le, specs.Prelude.nat_lt, proofs.lemmas.Nat.div-add-mod', proofs.lemmas.Nat.mod_below}
 use Rattle.std.proofs.lemmas.Bool.{and_parts, cases_Bool, cases_eq, cases_lt, eq-eqb, le-leb, le-ltb, leb-true, lt-leb, lt-ltb, ltb-false, ltb-true, ne_eqb}
-use Rattle.std.proofs.lemmas.Nat.{div-add-mod', mod_below}
-use Rattle.dcd_base.specs.Words.{has_granule}
-use Rattle.dcd_base.specs.declared.media.Run.{Run}
-use Rattle.shard_laws.specs.Belonging.{has_own}
-use Rattle.shard_laws.specs.Stripes.{own_below}
+use Rattle.dcd_base.specs.{Words.has_granule, declared.media.Run.Run}
+use Rattle.shard_laws.specs.{Belonging.has_own, Stripes.own_below}
 
 -- ---- a granule of shard k
 

@@ -1,24 +1,16 @@
 -- The entries of a merge, by the control and the shards that they come from.
 use Rattle.std.proofs.Common.{◌≡◌, ◌≢◌, ℕ, Bool, true, false, not, ◌||◌, ◌==◌, List, [], ◌∷◌, ◌++◌, sym, ap, ◌∙◌, subst, append-nil, eq-eqb, ne_eqb}
-use Rattle.std.specs.Prelude.{flat_map, All}
-use Rattle.std.specs.List.{filter}
 use Rattle.std.proofs.lemmas.List.Elements.{All-append, All-filter, All-nil, All-weaker, filter-append}
+use Rattle.std.specs.{List.filter, Prelude.flat_map, Prelude.All}
 use mathlib.Core.Option.{some}
 use lib.ListN.{get_elem?}
+use Rattle.journal_core.proofs.{EachPlaces.Each-all, Filters.all_flat, Filters.filter_empty, Filters.filter_flat, Filters.filter_whole}
+use Rattle.journal_core.{proofs.MergedFilters.merged-all, proofs.MergedFilters.merged-filter, proofs.MergedFilters.merged-shard, proofs.Splits.all_both, specs.Entries.is_control, specs.Merging.merged}
 use Rattle.journal_core.specs.declared.entries.Entry.{Entry}
-use Rattle.journal_core.specs.Entries.{is_control}
-use Rattle.journal_core.specs.Merging.{merged}
-use Rattle.journal_core.proofs.EachPlaces.{Each-all}
-use Rattle.journal_core.proofs.Filters.{all_flat, filter_empty, filter_flat, filter_whole}
-use Rattle.journal_core.proofs.MergedFilters.{merged-all, merged-filter, merged-shard}
-use Rattle.journal_core.proofs.Splits.{all_both}
 use Rattle.region_config.specs.Configurations.{Configuration}
 use Rattle.ruled_cells.specs.Stamps.{IsControlLog}
-use Rattle.shard_laws.specs.Belonging.{shard_in}
-use Rattle.shard_laws.specs.Lawful.{AreShardLogs, IsShardLog}
-use Rattle.shard_laws.specs.Right.{AccessMeets}
-use Rattle.shard_laws.proofs.ControlLogs.{IsAccessEntry, control_only, merged_accesses}
-use Rattle.shard_laws.proofs.LeftOut.{no_effects, not_both}
+use Rattle.shard_laws.proofs.{ControlLogs.IsAccessEntry, ControlLogs.control_only, ControlLogs.merged_accesses, LeftOut.no_effects, LeftOut.not_both}
+use Rattle.shard_laws.specs.{Belonging.shard_in, Lawful.AreShardLogs, Lawful.IsShardLog, Right.AccessMeets}
 
 -- an entry of the control or of shard k
 abbrev pub is_of : Configuration → ℕ → Entry → Bool

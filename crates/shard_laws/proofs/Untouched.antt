@@ -1,21 +1,12 @@
 -- What effects and entries leave of a granule that they do not touch.
 use Rattle.std.proofs.Common.{◌≡◌, ℕ, ◌%◌, Bool, true, false, ◌||◌, ◌&&◌, ◌==◌, List, [], ◌∷◌, refl, ap, ◌∙◌}
+use Rattle.std.{proofs.lemmas.Bool.or_parts, proofs.lemmas.List.Elements.All-head, proofs.lemmas.List.Elements.All-tail, proofs.lemmas.List.Sums.fold-append, specs.List.list_any}
 use Rattle.std.specs.Prelude.{fold, All, if◌then◌else◌}
-use Rattle.std.specs.List.{list_any}
-use Rattle.std.proofs.lemmas.Bool.{or_parts}
-use Rattle.std.proofs.lemmas.List.Elements.{All-head, All-tail}
-use Rattle.std.proofs.lemmas.List.Sums.{fold-append}
-use Rattle.dcd_base.specs.Words.{has_granule}
-use Rattle.dcd_base.specs.declared.ids.HostId.{HostId}
+use Rattle.dcd_base.specs.{Words.has_granule, declared.ids.HostId.HostId}
 use Rattle.device_rules.specs.Legal.{is_zeroing, word_after, word_by}
-use Rattle.journal_core.specs.declared.entries.Entry.{Entry}
-use Rattle.journal_core.specs.declared.outcome.Effect.{Effect}
-use Rattle.journal_core.specs.Entries.{effects, is_control}
-use Rattle.journal_core.specs.Holders.{holding_after}
+use Rattle.journal_core.specs.{declared.entries.Entry.Entry, declared.outcome.Effect.Effect, Entries.effects, Entries.is_control, Holders.holding_after}
 use Rattle.region_config.specs.Configurations.{Configuration}
-use Rattle.shard_laws.specs.Belonging.{touches_own, touches_shard}
-use Rattle.shard_laws.proofs.LeftOut.{stores_nothing}
-use Rattle.shard_laws.proofs.OwnGranules.{none_of_run}
+use Rattle.shard_laws.{specs.Belonging.touches_own, specs.Belonging.touches_shard, proofs.LeftOut.stores_nothing, proofs.OwnGranules.none_of_run}
 
 -- The effect leaves holders and words of the granule.
 record IsUntouched (g : ℕ) (f : Effect) : Type 0 where

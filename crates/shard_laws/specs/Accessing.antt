@@ -1,23 +1,13 @@
 -- What a load or a store makes of a shard.
 use Rattle.std.specs.Prelude.{◌≡◌, ℕ, ◌/◌, ◌%◌, ◌<◌, false, [], ◌∷◌, ◌++◌, Option, Some, None, IfOk, if◌then◌else◌}
-use Rattle.std.specs.declared.result.Result.{Result}
-use Rattle.std.specs.declared.result.Result.TheVariants.{Ok, Err}
-use Rattle.dcd_base.specs.Hosts.{has_host}
-use Rattle.dcd_base.specs.declared.failures.AccessFault.{AccessFault}
-use Rattle.dcd_base.specs.declared.ids.HostId.{HostId}
-use Rattle.dcd_base.specs.declared.media.Place.{Place}
-use Rattle.dcd_base.specs.declared.steps.Actor.{Actor}
+use Rattle.std.specs.declared.result.Result.{Result, TheVariants.Ok, TheVariants.Err}
+use Rattle.dcd_base.specs.{Hosts.has_host, declared.failures.AccessFault.AccessFault, declared.ids.HostId.HostId, declared.media.Place.Place, declared.steps.Actor.Actor}
 use Rattle.device_rules.specs.Legal.{word_by}
 use Rattle.granule_mem.specs.Contents.{Media, Stores, holders_in, word_in}
-use Rattle.journal_core.specs.declared.acts.Act.{Act}
-use Rattle.journal_core.specs.declared.acts.Reply.{Reply}
-use Rattle.journal_core.specs.declared.entries.Entry.{Entry}
-use Rattle.journal_core.specs.Accesses.{load_said, stored_unless}
-use Rattle.journal_core.specs.Entries.{is_control}
+use Rattle.journal_core.specs.{declared.acts.Act.Act, declared.acts.Reply.Reply, declared.entries.Entry.Entry, Accesses.load_said, Accesses.stored_unless, Entries.is_control}
 use Rattle.media_map.specs.Places.{locate}
 use Rattle.region_config.specs.Granules.{granule_total}
-use Rattle.shard_laws.specs.Belonging.{asked_at, shard_in}
-use Rattle.shard_laws.specs.Stripes.{Stripe, stripe_word}
+use Rattle.shard_laws.specs.{Belonging.asked_at, Belonging.shard_in, Stripes.Stripe, Stripes.stripe_word}
 
 -- the place, where the host is among the holders of its granule
 abbrev pub held_place : Media → HostId → Result Place AccessFault → Result Place AccessFault

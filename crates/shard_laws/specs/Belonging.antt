@@ -1,15 +1,8 @@
 -- Which shard a load or a store is of, and which shards a command touches.
-use Rattle.std.specs.Prelude.{◌≡◌, ℕ, ◌+◌, ◌%◌, Bool, false, nat_lt}
-use Rattle.std.specs.List.{list_any}
-use Rattle.std.specs.declared.result.Result.{Result}
+use Rattle.std.specs.{List.list_any, Prelude.◌≡◌, Prelude.ℕ, Prelude.◌+◌, Prelude.◌%◌, Prelude.Bool, Prelude.false, Prelude.nat_lt, declared.result.Result.Result}
 use Rattle.std.specs.declared.result.Result.TheVariants.{Ok, Err}
-use Rattle.dcd_base.specs.declared.failures.AccessFault.{AccessFault}
-use Rattle.dcd_base.specs.declared.media.Place.{Place}
-use Rattle.dcd_base.specs.declared.media.Run.{Run}
-use Rattle.dcd_base.specs.declared.steps.Actor.{Actor}
-use Rattle.journal_core.specs.declared.acts.Act.{Act}
-use Rattle.journal_core.specs.declared.entries.Entry.{Entry}
-use Rattle.journal_core.specs.declared.outcome.Effect.{Effect}
+use Rattle.dcd_base.specs.declared.{failures.AccessFault.AccessFault, media.Place.Place, media.Run.Run, steps.Actor.Actor}
+use Rattle.journal_core.specs.declared.{acts.Act.Act, entries.Entry.Entry, outcome.Effect.Effect}
 use Rattle.media_map.specs.Places.{locate}
 use Rattle.region_config.specs.Configurations.{Configuration}
 use Rattle.shard_laws.specs.Stripes.{own_below}

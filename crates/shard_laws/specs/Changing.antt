@@ -1,17 +1,11 @@
 -- What a command or a scrub makes of a shard.
 use Rattle.std.specs.Prelude.{◌≡◌, ℕ, ◌/◌, ◌%◌, ◌<◌, ◌&&◌, List, [], fold, length, if◌then◌else◌}
 use Rattle.std.specs.List.{list_any}
-use Rattle.dcd_base.specs.Hosts.{has_host}
-use Rattle.dcd_base.specs.Words.{has_granule}
-use Rattle.dcd_base.specs.declared.ids.HostId.{HostId}
-use Rattle.dcd_base.specs.declared.media.Change.{Change}
-use Rattle.device_rules.specs.ChangedRuns.{holders_after}
-use Rattle.device_rules.specs.Legal.{is_zeroing}
+use Rattle.dcd_base.specs.{Hosts.has_host, Words.has_granule, declared.ids.HostId.HostId, declared.media.Change.Change}
+use Rattle.device_rules.specs.{ChangedRuns.holders_after, Legal.is_zeroing}
 use Rattle.granule_mem.specs.Contents.{IsFresh, Media, holders_in, word_in}
-use Rattle.journal_core.specs.declared.entries.Entry.{Entry}
-use Rattle.journal_core.specs.Holders.{holding_after}
-use Rattle.region_config.specs.Configurations.{Configuration}
-use Rattle.region_config.specs.Granules.{granule_total}
+use Rattle.journal_core.specs.{declared.entries.Entry.Entry, Holders.holding_after}
+use Rattle.region_config.specs.{Configurations.Configuration, Granules.granule_total}
 use Rattle.ruled_cells.specs.Stamps.{stamp}
 use Rattle.shard_laws.specs.Stripes.{Stripe, holders_at, stripe_word}
 

@@ -3,13 +3,10 @@ use Rattle.std.specs.Prelude.{◌≡◌, ℕ, ◌≤◌, false, List, [], ◌∷
 use mathlib.Core.Option.{some}
 use lib.ListN.{get_elem?}
 use Rattle.device_rules.specs.Legal.{Legal}
-use Rattle.journal_core.specs.declared.entries.Entry.{Entry}
-use Rattle.journal_core.specs.Entries.{Each, is_control}
-use Rattle.journal_core.specs.Merging.{Numbered, Rising, merged}
+use Rattle.journal_core.specs.{declared.entries.Entry.Entry, Entries.Each, Entries.is_control, Merging.Numbered, Merging.Rising, Merging.merged}
 use Rattle.region_config.specs.Configurations.{Configuration}
 use Rattle.ruled_cells.specs.Stamps.{IsControlLog}
-use Rattle.shard_laws.specs.Belonging.{shard_in}
-use Rattle.shard_laws.specs.Right.{AccessMeets}
+use Rattle.shard_laws.specs.{Belonging.shard_in, Right.AccessMeets}
 
 -- The entries are loads and stores of shard k, by rising stamps, whose numbers are at most that of the control's last
 -- entry, and whose counts are at least 1. Each meets what stands before it in the merge of the control and this shard.

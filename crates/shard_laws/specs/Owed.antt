@@ -2,17 +2,9 @@
 use Rattle.std.specs.Prelude.{◌≡◌, ℕ, suc, ◌+◌, List, length}
 use Rattle.dcd_base.specs.declared.media.Change.{Change}
 use Rattle.device_rules.specs.ChangedRuns.{AreChanges}
-use Rattle.journal_core.specs.declared.entries.Entry.{Entry}
-use Rattle.journal_core.specs.Entries.{effects}
-use Rattle.ruled_cells.specs.declared.about.About.{About}
-use Rattle.ruled_cells.specs.Reads.{ChiefReads}
-use Rattle.ruled_cells.specs.Resting.{IsShardAtRest}
-use Rattle.ruled_cells.specs.Ruling.{names}
-use Rattle.ruled_cells.specs.Stamps.{stamp}
-use Rattle.shard_laws.specs.Changing.{ChangedBy, MakesChanges}
-use Rattle.shard_laws.specs.Lawful.{IsShardLog}
-use Rattle.shard_laws.specs.Right.{IsRight, stripe_reads}
-use Rattle.shard_laws.specs.Stripes.{Stripe}
+use Rattle.journal_core.specs.{declared.entries.Entry.Entry, Entries.effects}
+use Rattle.ruled_cells.specs.{declared.about.About.About, Reads.ChiefReads, Resting.IsShardAtRest, Ruling.names, Stamps.stamp}
+use Rattle.shard_laws.specs.{Changing.ChangedBy, Changing.MakesChanges, Lawful.IsShardLog, Right.IsRight, Right.stripe_reads, Stripes.Stripe}
 
 -- A list of changes names holders and not who comes or goes. Made to a shard that is right for the journal before the
 -- entry, those of the entry do what its effects say.

@@ -1,18 +1,11 @@
 -- When a shard is right for a journal of commands and scrubs, and what the rule of the cells reads of it.
 use Rattle.std.specs.Prelude.{◌≡◌, ℕ, ◌<◌, ◌%◌, false, List, [], ◌∷◌, All}
 use Rattle.dcd_base.specs.declared.steps.Stamp.{Stamp}
-use Rattle.device_rules.specs.ChangedRuns.{AreHolders}
-use Rattle.device_rules.specs.Legal.{Meets, word_of}
-use Rattle.journal_core.specs.declared.entries.Entry.{Entry}
-use Rattle.journal_core.specs.Entries.{Each, effects, is_control}
-use Rattle.journal_core.specs.Merging.{merged}
-use Rattle.region_config.specs.Configurations.{Configuration}
-use Rattle.region_config.specs.Granules.{granule_total}
+use Rattle.device_rules.specs.{ChangedRuns.AreHolders, Legal.Meets, Legal.word_of}
+use Rattle.journal_core.specs.{declared.entries.Entry.Entry, Entries.Each, Entries.effects, Entries.is_control, Merging.merged}
+use Rattle.region_config.specs.{Configurations.Configuration, Granules.granule_total}
 use Rattle.ruled_cells.specs.Reads.{MemberReads}
-use Rattle.shard_laws.specs.Accessing.{IsAccess}
-use Rattle.shard_laws.specs.Belonging.{Belongs, touches_shard}
-use Rattle.shard_laws.specs.Changing.{ChangedBy}
-use Rattle.shard_laws.specs.Stripes.{Stripe, holders_at, stripe_word}
+use Rattle.shard_laws.specs.{Accessing.IsAccess, Belonging.Belongs, Belonging.touches_shard, Changing.ChangedBy, Stripes.Stripe, Stripes.holders_at, Stripes.stripe_word}
 
 -- a load or a store meets what the entries before it ask
 abbrev pub AccessMeets : Configuration → List Entry → Entry → Type 0

@@ -1,19 +1,12 @@
 -- Passes of a device of sixteen hosts.
-use Rattle.std.proofs.Common.{◌≡◌, ℕ, IsTrue, List, length, sym, subst}
+use Rattle.std.proofs.{Common.◌≡◌, Common.ℕ, Common.IsTrue, Common.List, Common.length, Common.sym, Common.subst, lemmas.List.length-map}
 use Rattle.std.specs.List.{All}
-use Rattle.std.proofs.lemmas.List.{length-map}
 use mathlib.Core.Option.{some}
 use lib.ListN.{get_elem?}
 use Rattle.device_plain.specs.control_core.specs.Steps.{MayStep}
 use Rattle.dcd_base.specs.declared.steps.Actor.{Actor}
-use Rattle.journal_core.proofs.Splits.{all_from_places}
-use Rattle.journal_core.specs.declared.acts.Act.{Act}
-use Rattle.journal_core.specs.Entries.{fits, is_control}
-use Rattle.journal_core.specs.Merging.{call_of}
-use Rattle.shared_device.specs.ruled_cells.specs.Seats.{seat_view}
-use Rattle.shared_device.specs.declared.pass.Pass.{Pass}
-use Rattle.shared_device.specs.declared.shared.Shared.{Shared}
-use Rattle.shared_device.specs.Passing.{IsNewPass, IsOneOf, pass_calls}
+use Rattle.journal_core.{proofs.Splits.all_from_places, specs.declared.acts.Act.Act, specs.Entries.fits, specs.Entries.is_control, specs.Merging.call_of}
+use Rattle.shared_device.specs.{ruled_cells.specs.Seats.seat_view, declared.pass.Pass.Pass, declared.shared.Shared.Shared, Passing.IsNewPass, Passing.IsOneOf, Passing.pass_calls}
 
 pub calls_counted : (p : Pass) → length (pass_calls p) ≡ length (seat_view p.seat).calls
 calls_counted p = length-map (seat_view p.seat).calls call_of

@@ -1,12 +1,7 @@
 -- Lists of actors: the lanes of one host after another.
 use Rattle.std.proofs.Common.{◌≡◌, ℕ, zero, suc, ◌+◌, ◌*◌, List, [], ◌∷◌, ◌++◌, length, ap, ◌∙◌, append-nil, arith}
-use Rattle.std.specs.Prelude.{flat_map, replicate}
-use Rattle.std.specs.List.{range_with_len}
-use Rattle.std.proofs.lemmas.Grind.{flat_map-append}
-use Rattle.std.proofs.lemmas.List.{length-append, length-replicate}
-use Rattle.std.proofs.lemmas.List.Concat.{flat_map-cons}
-use Rattle.std.proofs.lemmas.List.FromFn.{length-range_with_len}
-use Rattle.std.proofs.Math.Nat.{suc-mul}
+use Rattle.std.proofs.{Math.Nat.suc-mul, lemmas.Grind.flat_map-append, lemmas.List.length-append, lemmas.List.length-replicate, lemmas.List.Concat.flat_map-cons}
+use Rattle.std.{proofs.lemmas.List.FromFn.length-range_with_len, specs.List.range_with_len, specs.Prelude.flat_map, specs.Prelude.replicate}
 use Rattle.dcd_base.specs.declared.steps.Actor.{Actor}
 
 range_more : (a n : ℕ) → range_with_len a (suc n) ≡ range_with_len a n ++ (a + n) ∷ []

@@ -1,46 +1,24 @@
 -- What the cells leave once all turns are given back is one journal, with the calls of each pass in it.
 use Rattle.std.proofs.Common.{◌≡◌, inl, inr, ℕ, zero, suc, ◌<◌, true, ◌&&◌, ◌==◌, List, [], ◌∷◌, map, refl, sym, ap, ◌∙◌, subst, eq-eqb, arith}
-use Rattle.std.specs.Prelude.{All, flat_map, nat_lt}
-use Rattle.std.proofs.lemmas.Bool.{and_from, lt-ltb, or_left, or_right}
+use Rattle.std.{specs.Prelude.All, specs.Prelude.flat_map, specs.Prelude.nat_lt, proofs.lemmas.Bool.and_from, proofs.lemmas.Bool.lt-ltb, proofs.lemmas.Bool.or_left, proofs.lemmas.Bool.or_right}
 use mathlib.Core.Logic.{dite}
 use mathlib.Core.Option.{some, some-injective, some-ne-none}
 use native.Mathlib.Decide.{dec_lt}
 use lib.ListN.{get_elem?, length-map}
 use Rattle.dcd_base.specs.declared.steps.Stamp.{Stamp}
-use Rattle.control_core.specs.device_rules.specs.Legal.{Legal}
-use Rattle.control_core.specs.device_rules.proofs.ExclusiveHolding.{legal_exclusive}
-use Rattle.block_shard.specs.journal_core.specs.declared.entries.Entry.{Entry}
-use Rattle.block_shard.specs.journal_core.specs.Merging.{AllRise, Numbered, Rising, call_of, calls_of, is_later, merged}
-use Rattle.block_shard.specs.journal_core.proofs.Filters.{all_flat}
-use Rattle.block_shard.specs.journal_core.proofs.MergedFilters.{merged-all}
-use Rattle.block_shard.specs.journal_core.proofs.Splits.{all_at, all_from_places}
+use Rattle.control_core.specs.device_rules.{specs.Legal.Legal, proofs.ExclusiveHolding.legal_exclusive}
+use Rattle.block_shard.specs.journal_core.proofs.{Filters.all_flat, MergedFilters.merged-all, Splits.all_at, Splits.all_from_places}
+use Rattle.block_shard.specs.journal_core.specs.{Merging.AllRise, Merging.Numbered, Merging.Rising, Merging.call_of, Merging.calls_of, Merging.is_later, Merging.merged, declared.entries.Entry.Entry}
+use Rattle.block_shard.specs.ruled_cells.{proofs.Places.map_at, proofs.Weights.own-same, specs.Booking.Fits, specs.Booking.own, specs.Booking.weigh, specs.Booking.weigh_all, specs.Booking.weight_one}
+use Rattle.block_shard.specs.ruled_cells.specs.{Calls.AccountFor, Calls.AreAll, Calls.IsOf, Calls.NoOthers, Calls.opened_with, Calls.seats_of, Reads.about_of, Resting.Accounts, Resting.IsAtRest}
+use Rattle.block_shard.specs.ruled_cells.specs.{Ruling.Names, Ruling.names, Seats.NoTurns, Seats.seat_view, Stamps.Below, Stamps.Rise, Telling.values, declared.about.About.About}
+use Rattle.block_shard.specs.{ruled_cells.specs.declared.cell_value.CellValue.TheVariants.Rest, ruled_cells.specs.declared.seat.Seat.Seat, shard_laws.proofs.AtRest.rests_lawful}
+use Rattle.block_shard.specs.shard_laws.{proofs.ControlLogs.control_of_merged, proofs.LawfulMerge.merges_legally, proofs.ShardParts.all_accesses, specs.Lawful.AreShardLogs, specs.Lawful.IsShardLog}
+use Rattle.block_shard.specs.shard_laws.specs.{Right.stripe_reads, Stripes.Stripe}
 use Rattle.region_config.specs.Soundness.{IsSound}
-use Rattle.block_shard.specs.ruled_cells.specs.declared.about.About.{About}
-use Rattle.block_shard.specs.ruled_cells.specs.declared.cell_value.CellValue.TheVariants.{Rest}
-use Rattle.block_shard.specs.ruled_cells.specs.declared.seat.Seat.{Seat}
-use Rattle.block_shard.specs.ruled_cells.specs.Booking.{Fits, own, weigh, weigh_all, weight_one}
-use Rattle.block_shard.specs.ruled_cells.specs.Calls.{AccountFor, AreAll, IsOf, NoOthers, opened_with, seats_of}
-use Rattle.block_shard.specs.ruled_cells.specs.Reads.{about_of}
-use Rattle.block_shard.specs.ruled_cells.specs.Resting.{Accounts, IsAtRest}
-use Rattle.block_shard.specs.ruled_cells.specs.Ruling.{Names, names}
-use Rattle.block_shard.specs.ruled_cells.specs.Seats.{NoTurns, seat_view}
-use Rattle.block_shard.specs.ruled_cells.specs.Stamps.{Below, Rise}
-use Rattle.block_shard.specs.ruled_cells.specs.Telling.{values}
-use Rattle.block_shard.specs.ruled_cells.proofs.Places.{map_at}
-use Rattle.block_shard.specs.ruled_cells.proofs.Weights.{own-same}
-use Rattle.block_shard.specs.shard_laws.specs.Lawful.{AreShardLogs, IsShardLog}
-use Rattle.block_shard.specs.shard_laws.specs.Right.{stripe_reads}
-use Rattle.block_shard.specs.shard_laws.specs.Stripes.{Stripe}
-use Rattle.block_shard.specs.shard_laws.proofs.AtRest.{rests_lawful}
-use Rattle.block_shard.specs.shard_laws.proofs.ControlLogs.{control_of_merged}
-use Rattle.block_shard.specs.shard_laws.proofs.LawfulMerge.{merges_legally}
-use Rattle.block_shard.specs.shard_laws.proofs.ShardParts.{all_accesses}
-use Rattle.shared_device.specs.declared.pass.Pass.{Pass}
-use Rattle.shared_device.specs.declared.shared.Shared.{Shared}
-use Rattle.shared_device.specs.Closing.{AreAllPasses, HasCalls, IsClosed}
-use Rattle.shared_device.specs.Commanding.{Commanding, commanding_reads}
-use Rattle.shared_device.specs.Passing.{pass_actor, pass_number}
 use Rattle.shared_device.proofs.WeighedCalls.{Climbs, calls_in_merge, weigh_append, weigh_merged, weighs_least}
+use Rattle.shared_device.specs.{Closing.AreAllPasses, Closing.HasCalls, Closing.IsClosed, Commanding.Commanding, Commanding.commanding_reads, Passing.pass_actor, Passing.pass_number}
+use Rattle.shared_device.specs.declared.{pass.Pass.Pass, shared.Shared.Shared}
 
 -- ---- the seats of the passes
 

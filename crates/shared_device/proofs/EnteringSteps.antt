@@ -1,38 +1,21 @@
 -- What a seat with the turn of the control may do at each step of a command, and what it knows then.
 use Rattle.std.proofs.Common.{◌≡◌, ◌≢◌, ◌⊎◌, ℕ, zero, suc, ◌+◌, ◌^◌, ◌<◌, ◌≤◌, Bool, true, false, ◌&&◌, not, List, [], ◌∷◌, ◌++◌, length, set, sym, refl, ap, ◌∙◌, subst, ⊎_elim, inl, inr, arith, Option, Some, None, eq-eqb, ne_eqb, ◌==◌, ◌||◌}
-use Rattle.std.proofs.lemmas.Bool.{cases_lt, or_left, or_right}
-use Rattle.std.proofs.lemmas.List.{length_push}
+use Rattle.std.proofs.lemmas.{Bool.cases_lt, Bool.or_left, Bool.or_right, List.length_push}
 use mathlib.Core.Option.{some}
 use native.Mathlib.Decide.{dec_lt}
 use lib.ListN.{get_elem?}
 use Rattle.atomic_table.proofs.Lists.{set_else}
-use Rattle.control_core.specs.declared.plan.Plan.{Plan}
-use Rattle.control_core.specs.device_rules.specs.ChangedRuns.{AreChanges}
-use Rattle.block_shard.specs.journal_core.specs.declared.entries.Entry.{Entry}
-use Rattle.block_shard.specs.journal_core.specs.Entries.{effects}
-use Rattle.region_config.specs.Configurations.{Configuration}
-use Rattle.block_shard.specs.ruled_cells.specs.declared.about.SeatView.{SeatView}
-use Rattle.block_shard.specs.ruled_cells.specs.declared.cell_value.CellValue.{CellValue}
-use Rattle.block_shard.specs.ruled_cells.specs.declared.cell_value.CellValue.TheVariants.{Rest}
-use Rattle.block_shard.specs.ruled_cells.specs.declared.cells.Cells.{Cells}
-use Rattle.block_shard.specs.ruled_cells.specs.declared.seat.Seat.{Seat}
-use Rattle.block_shard.specs.ruled_cells.specs.Calls.{GaveIn, IsOf, MayGiveIn, MayNoteIn, row_of}
-use Rattle.block_shard.specs.ruled_cells.specs.Reads.{about_of}
-use Rattle.block_shard.specs.ruled_cells.specs.Ruling.{Names, names}
+use Rattle.control_core.specs.{declared.plan.Plan.Plan, device_rules.specs.ChangedRuns.AreChanges}
+use Rattle.block_shard.specs.{journal_core.specs.Entries.effects, journal_core.specs.declared.entries.Entry.Entry, ruled_cells.proofs.Order.never}
+use Rattle.block_shard.specs.ruled_cells.specs.{Calls.GaveIn, Calls.IsOf, Calls.MayGiveIn, Calls.MayNoteIn, Calls.row_of, Reads.about_of, Ruling.Names, Ruling.names}
 use Rattle.block_shard.specs.ruled_cells.specs.Seats.{HasCell, HasFirst, IsSameSeat, NoCell, NoTurns, seat_number, seat_view, turns_of}
 use Rattle.block_shard.specs.ruled_cells.specs.Stamps.{Below, has_index, pending, stamp}
-use Rattle.block_shard.specs.ruled_cells.specs.Telling.{GaveCell, MayNote, changed_view, entered_view, last_of, noted_view}
-use Rattle.block_shard.specs.ruled_cells.specs.Turning.{HasTurn}
-use Rattle.block_shard.specs.ruled_cells.proofs.Order.{never}
-use Rattle.block_shard.specs.shard_laws.specs.Belonging.{touches_shard}
-use Rattle.block_shard.specs.shard_laws.specs.Changing.{ChangedBy, MakesChanges}
-use Rattle.block_shard.specs.shard_laws.specs.Owed.{FollowsEffects}
-use Rattle.block_shard.specs.shard_laws.specs.Right.{stripe_reads}
-use Rattle.block_shard.specs.shard_laws.specs.Stripes.{Stripe}
-use Rattle.shared_device.specs.Commanding.{Commanding, commanding_reads}
+use Rattle.block_shard.specs.ruled_cells.specs.{Telling.GaveCell, Telling.MayNote, Telling.changed_view, Telling.entered_view, Telling.last_of, Telling.noted_view, Turning.HasTurn}
+use Rattle.block_shard.specs.ruled_cells.specs.declared.{about.SeatView.SeatView, cell_value.CellValue.CellValue, cell_value.CellValue.TheVariants.Rest, cells.Cells.Cells, seat.Seat.Seat}
+use Rattle.block_shard.specs.shard_laws.specs.{Belonging.touches_shard, Changing.ChangedBy, Changing.MakesChanges, Owed.FollowsEffects, Right.stripe_reads, Stripes.Stripe}
+use Rattle.region_config.specs.Configurations.{Configuration}
+use Rattle.shared_device.{proofs.Turns.same_cell, proofs.Turns.still_there, proofs.TurnsBack.last_given, specs.Commanding.Commanding, specs.Commanding.commanding_reads}
 use Rattle.shared_device.specs.Entering.{AreApart, HasNoted, HasOneMore, HasTouched, MayEnterStep}
-use Rattle.shared_device.proofs.Turns.{same_cell, still_there}
-use Rattle.shared_device.proofs.TurnsBack.{last_given}
 
 abbrev Worker : Type 0
 Worker = Seat Commanding Stripe

@@ -4,13 +4,8 @@ use mathlib.Core.Option.{some}
 use lib.ListN.{get_elem?}
 use Rattle.control_core.specs.device_rules.specs.Legal.{Legal}
 use Rattle.region_config.specs.Configurations.{Configuration}
-use Rattle.block_shard.specs.ruled_cells.specs.Ruling.{names}
-use Rattle.block_shard.specs.ruled_cells.specs.Telling.{MayOpen}
-use Rattle.block_shard.specs.ruled_cells.proofs.MakingSteps.{each_front}
-use Rattle.block_shard.specs.ruled_cells.proofs.Places.{at_push}
-use Rattle.block_shard.specs.shard_laws.specs.Changing.{IsFreshStripe}
-use Rattle.block_shard.specs.shard_laws.specs.Right.{IsRight, stripe_reads}
-use Rattle.block_shard.specs.shard_laws.specs.Stripes.{Stripe}
+use Rattle.block_shard.specs.ruled_cells.{proofs.MakingSteps.each_front, proofs.Places.at_push, specs.Ruling.names, specs.Telling.MayOpen}
+use Rattle.block_shard.specs.shard_laws.specs.{Changing.IsFreshStripe, Right.IsRight, Right.stripe_reads, Stripes.Stripe}
 use Rattle.shared_device.specs.Commanding.{Commanding, commanding_reads}
 
 -- what holds of each item and its place, once there is one more

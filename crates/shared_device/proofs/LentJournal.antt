@@ -1,30 +1,16 @@
 -- What the journal of a device that was taken apart is for who prints it.
 use Rattle.std.proofs.Common.{◌≡◌, inl, inr, ℕ, Bool, true, false, cond, List, [], ◌∷◌, refl, sym, ap, ◌∙◌, subst}
-use Rattle.std.specs.Prelude.{All, IsFalse, IsTrue}
-use Rattle.std.specs.List.{filter}
-use Rattle.std.specs.declared.result.Result.{Result}
-use Rattle.std.specs.declared.result.Result.TheVariants.{Ok, Err}
-use Rattle.std.proofs.lemmas.Bool.{cases_Bool}
-use Rattle.std.proofs.lemmas.List.Elements.{All-cons, All-head, All-nil, All-tail, All-weaker}
-use Rattle.std.proofs.lemmas.List.Kept.{AllPairs-filter}
+use Rattle.std.proofs.lemmas.{Bool.cases_Bool, List.Elements.All-cons, List.Elements.All-head, List.Elements.All-nil, List.Elements.All-tail, List.Elements.All-weaker, List.Kept.AllPairs-filter}
+use Rattle.std.specs.{List.filter, Prelude.All, Prelude.IsFalse, Prelude.IsTrue, declared.result.Result.Result, declared.result.Result.TheVariants.Ok, declared.result.Result.TheVariants.Err}
 use Rattle.control_core.specs.Deciding.{AreShort, IsShort}
-use Rattle.dcd_base.specs.declared.failures.AccessFault.{AccessFault}
-use Rattle.dcd_base.specs.declared.ids.HostId.{HostId}
-use Rattle.dcd_base.specs.declared.media.Place.{Place}
-use Rattle.dcd_base.specs.declared.steps.Actor.{Actor}
 use Rattle.control_core.specs.device_rules.specs.Legal.{Legal, Meets, access_at, granted_reply, right_answer}
-use Rattle.block_shard.specs.journal_core.specs.declared.acts.Act.{Act}
-use Rattle.block_shard.specs.journal_core.specs.declared.acts.Reply.{Reply}
-use Rattle.block_shard.specs.journal_core.specs.declared.entries.Entry.{Entry}
-use Rattle.block_shard.specs.journal_core.specs.Entries.{effects, fits, is_control}
-use Rattle.block_shard.specs.journal_core.specs.Holders.{holds}
-use Rattle.block_shard.specs.journal_core.specs.Merging.{Numbered, Rising, is_later, merged}
-use Rattle.block_shard.specs.journal_core.proofs.EachPlaces.{Each-all}
-use Rattle.block_shard.specs.journal_core.proofs.Filters.{filter_dropped, filter_kept}
-use Rattle.block_shard.specs.journal_core.proofs.Splits.{all_both}
+use Rattle.dcd_base.specs.declared.{failures.AccessFault.AccessFault, ids.HostId.HostId, media.Place.Place, steps.Actor.Actor}
+use Rattle.block_shard.specs.journal_core.proofs.{EachPlaces.Each-all, Filters.filter_dropped, Filters.filter_kept, Splits.all_both}
+use Rattle.block_shard.specs.journal_core.specs.{Entries.effects, Entries.fits, Entries.is_control, Holders.holds, Merging.Numbered, Merging.Rising, Merging.is_later, Merging.merged}
+use Rattle.block_shard.specs.journal_core.specs.declared.{acts.Act.Act, acts.Reply.Reply, entries.Entry.Entry}
+use Rattle.block_shard.specs.shard_laws.proofs.LeftOut.{effects_kept, no_effects, not_both}
 use Rattle.media_map.specs.Places.{locate}
 use Rattle.region_config.specs.Configurations.{Configuration}
-use Rattle.block_shard.specs.shard_laws.proofs.LeftOut.{effects_kept, no_effects, not_both}
 
 -- what all that a filter keeps are, all that pass it are
 of_kept : {X : Type 0} (p : X → Bool) (P : X → Type 0) (xs : List X) → All P (filter p xs) → All (λ x. p x ≡ true → P x) xs

@@ -2,18 +2,11 @@
 use Rattle.std.proofs.Common.{◌≡◌, ℕ, ◌+◌, None, length, ap, ◌∙◌}
 use mathlib.Core.Option.{some}
 use lib.ListN.{get_elem?}
-use Rattle.dcd_base.specs.declared.ids.HostId.{HostId}
-use Rattle.dcd_base.specs.declared.steps.Actor.{Actor}
-use Rattle.dcd_base.specs.declared.steps.Stamp.{Stamp}
-use Rattle.block_shard.specs.journal_core.specs.declared.acts.Act.{Act}
-use Rattle.block_shard.specs.journal_core.specs.declared.acts.Reply.{Reply}
-use Rattle.block_shard.specs.ruled_cells.specs.declared.about.SeatView.{SeatView}
-use Rattle.block_shard.specs.ruled_cells.specs.declared.seat.Seat.{Seat}
-use Rattle.block_shard.specs.ruled_cells.specs.Seats.{IsSameSeat, NoTurns, seat_number, seat_view}
+use Rattle.dcd_base.specs.declared.{ids.HostId.HostId, steps.Actor.Actor, steps.Stamp.Stamp}
+use Rattle.block_shard.specs.journal_core.specs.declared.acts.{Act.Act, Reply.Reply}
+use Rattle.block_shard.specs.ruled_cells.specs.{Seats.IsSameSeat, Seats.NoTurns, Seats.seat_number, Seats.seat_view, declared.about.SeatView.SeatView, declared.seat.Seat.Seat}
 use Rattle.block_shard.specs.shard_laws.specs.Stripes.{Stripe}
-use Rattle.shared_device.specs.Commanding.{Commanding}
-use Rattle.shared_device.specs.Visiting.{HasVisited}
-use Rattle.shared_device.proofs.Visits.{call_counted}
+use Rattle.shared_device.{specs.Commanding.Commanding, specs.Visiting.HasVisited, proofs.Visits.call_counted}
 
 -- it has no turn, and this is its actor, what it has seen and how many calls it has made
 pub record Rests (s : Seat Commanding Stripe) (actor : Actor) (seen : Stamp) (calls : ℕ) : Type 0 where

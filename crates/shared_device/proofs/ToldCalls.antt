@@ -1,12 +1,8 @@
 -- Calls are told apart by numbers.
 use Rattle.std.proofs.Common.{◌≡◌, ℕ, List, [], ◌∷◌, length, refl, ap, arith}
-use Rattle.cci_codec.specs.declared.messages.Request.{Request}
-use Rattle.cci_codec.specs.declared.messages.Response.{Response}
+use Rattle.cci_codec.specs.declared.messages.{Request.Request, Response.Response}
 use Rattle.dcd_base.specs.declared.failures.AccessFault.{AccessFault}
-use Rattle.block_shard.specs.journal_core.specs.declared.acts.Act.{Act}
-use Rattle.block_shard.specs.journal_core.specs.declared.acts.Reply.{Reply}
-use Rattle.block_shard.specs.journal_core.specs.declared.entries.Entry.{Entry}
-use Rattle.block_shard.specs.journal_core.specs.Merging.{call_of}
+use Rattle.block_shard.specs.journal_core.specs.{declared.acts.Act.Act, declared.acts.Reply.Reply, declared.entries.Entry.Entry, Merging.call_of}
 
 -- all numbers of a and b are the same
 abbrev pub Alike : {X : Type 0} → X → X → Type 0

@@ -3,13 +3,8 @@ use Rattle.std.proofs.Common.{◌≡◌, ◌≢◌, ℕ, List, set, sym, ap, ◌
 use mathlib.Core.Option.{some}
 use lib.ListN.{get_elem?}
 use Rattle.atomic_table.proofs.Lists.{at_set, set_else}
-use Rattle.block_shard.specs.ruled_cells.specs.declared.cell_value.CellValue.{CellValue}
-use Rattle.block_shard.specs.ruled_cells.specs.declared.cell_value.CellValue.TheVariants.{Rest}
-use Rattle.block_shard.specs.ruled_cells.specs.declared.seat.Seat.{Seat}
-use Rattle.block_shard.specs.ruled_cells.specs.Seats.{IsSameSeat}
-use Rattle.block_shard.specs.ruled_cells.specs.Turning.{HasTurn, NoTurn}
-use Rattle.block_shard.specs.ruled_cells.proofs.Places.{some_some}
-use Rattle.block_shard.specs.ruled_cells.proofs.RuleSteps.{rest_same}
+use Rattle.block_shard.specs.ruled_cells.{proofs.Places.some_some, proofs.RuleSteps.rest_same, specs.Seats.IsSameSeat, specs.Turning.HasTurn, specs.Turning.NoTurn}
+use Rattle.block_shard.specs.ruled_cells.specs.declared.{cell_value.CellValue.CellValue, cell_value.CellValue.TheVariants.Rest, seat.Seat.Seat}
 
 -- a turn that was taken and given back
 pub given_again : {A : Type 0} (s t u : List (Option A)) (k : ℕ) (x : A) → ((j : ℕ) → NoTurn s j) → t ≡ set s k (Some x) → u ≡ set t k None → (j : ℕ) → NoTurn u j

@@ -1,19 +1,10 @@
 -- A load or a store at a shard that was taken, and what the seat knows once the shard is given back.
-use Rattle.std.proofs.Common.{◌≡◌, ℕ, ◌+◌, length, ap, ◌∙◌, subst}
-use Rattle.std.proofs.lemmas.List.{length_push}
-use Rattle.dcd_base.specs.declared.ids.HostId.{HostId}
-use Rattle.dcd_base.specs.declared.steps.Stamp.{Stamp}
-use Rattle.block_shard.specs.journal_core.specs.Accesses.{access_entry}
-use Rattle.block_shard.specs.journal_core.specs.declared.acts.Act.{Act}
-use Rattle.block_shard.specs.journal_core.specs.declared.acts.Reply.{Reply}
-use Rattle.block_shard.specs.ruled_cells.specs.declared.about.SeatView.{SeatView}
-use Rattle.block_shard.specs.ruled_cells.specs.declared.seat.Seat.{Seat}
-use Rattle.block_shard.specs.ruled_cells.specs.Seats.{IsSameSeat, seat_number, seat_view}
-use Rattle.block_shard.specs.ruled_cells.specs.Stamps.{Below}
-use Rattle.block_shard.specs.ruled_cells.specs.Telling.{entered_view}
+use Rattle.std.proofs.{Common.◌≡◌, Common.ℕ, Common.◌+◌, Common.length, Common.ap, Common.◌∙◌, Common.subst, lemmas.List.length_push}
+use Rattle.dcd_base.specs.declared.{ids.HostId.HostId, steps.Stamp.Stamp}
+use Rattle.block_shard.specs.journal_core.specs.{Accesses.access_entry, declared.acts.Act.Act, declared.acts.Reply.Reply}
+use Rattle.block_shard.specs.ruled_cells.specs.{Seats.IsSameSeat, Seats.seat_number, Seats.seat_view, Stamps.Below, Telling.entered_view, declared.about.SeatView.SeatView, declared.seat.Seat.Seat}
 use Rattle.block_shard.specs.shard_laws.specs.Stripes.{Stripe}
-use Rattle.shared_device.specs.Commanding.{Commanding}
-use Rattle.shared_device.specs.Visiting.{HasVisited}
+use Rattle.shared_device.specs.{Commanding.Commanding, Visiting.HasVisited}
 
 -- ---- what the seat knows then
 

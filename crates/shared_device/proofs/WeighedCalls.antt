@@ -1,18 +1,13 @@
 -- What the entries of a merge weigh, and the calls that weigh what a pass's entries of it weigh.
 use Rattle.std.proofs.Common.{◌≡◌, inl, inr, ℕ, zero, suc, ◌+◌, ◌≤◌, Bool, true, false, cond, ◌==◌, List, [], ◌∷◌, ◌++◌, sym, ap, ◌∙◌, refl, arith}
+use Rattle.std.proofs.lemmas.{Bool.cases_Bool, Bool.Decides.nat_tests, List.Elements.All-cons, List.Elements.All-head, List.Elements.All-nil, List.Elements.All-tail, List.Elements.All-weaker}
+use Rattle.std.{proofs.lemmas.List.Kept.AllPairs-filter, specs.List.filter}
 use Rattle.std.specs.Prelude.{fold, flat_map, map, All, IsFalse, if◌then◌else◌}
-use Rattle.std.specs.List.{filter}
-use Rattle.std.proofs.lemmas.Bool.{cases_Bool}
-use Rattle.std.proofs.lemmas.Bool.Decides.{nat_tests}
-use Rattle.std.proofs.lemmas.List.Elements.{All-cons, All-head, All-nil, All-tail, All-weaker}
-use Rattle.std.proofs.lemmas.List.Kept.{AllPairs-filter}
 use mathlib.Core.Option.{some, some-injective, some-ne-none}
 use lib.ListN.{get_elem?}
 use Rattle.dcd_base.specs.declared.steps.Stamp.{Stamp}
-use Rattle.block_shard.specs.journal_core.specs.declared.entries.Entry.{Entry}
-use Rattle.block_shard.specs.journal_core.specs.Merging.{Rising, call_of, calls_of, insert_entry, is_later, merged}
-use Rattle.block_shard.specs.journal_core.proofs.Merges.{merged-rising}
-use Rattle.block_shard.specs.journal_core.proofs.Splits.{pairs_head, pairs_tail}
+use Rattle.block_shard.specs.journal_core.proofs.{Merges.merged-rising, Splits.pairs_head, Splits.pairs_tail}
+use Rattle.block_shard.specs.journal_core.specs.{Merging.Rising, Merging.call_of, Merging.calls_of, Merging.insert_entry, Merging.is_later, Merging.merged, declared.entries.Entry.Entry}
 use Rattle.block_shard.specs.ruled_cells.specs.Booking.{own, weigh, weight_one}
 use Rattle.shared_device.proofs.ToldCalls.{same_call}
 

@@ -3,14 +3,10 @@ use Rattle.std.specs.Prelude.{◌≡◌, ℕ, ◌<◌, List, length, filter}
 use mathlib.Core.Option.{some}
 use lib.ListN.{get_elem?}
 use Rattle.control_core.specs.device_rules.specs.Legal.{Exclusive, Legal}
-use Rattle.block_shard.specs.journal_core.specs.declared.entries.Entry.{Entry}
-use Rattle.block_shard.specs.journal_core.specs.Entries.{is_control}
-use Rattle.block_shard.specs.journal_core.specs.Merging.{Numbered, calls_of, merged}
-use Rattle.region_config.specs.Configurations.{Configuration}
+use Rattle.block_shard.specs.journal_core.specs.{Entries.is_control, Merging.Numbered, Merging.calls_of, Merging.merged, declared.entries.Entry.Entry}
 use Rattle.block_shard.specs.ruled_cells.specs.Calls.{seats_of}
-use Rattle.shared_device.specs.declared.pass.Pass.{Pass}
-use Rattle.shared_device.specs.declared.shared.Shared.{Shared}
-use Rattle.shared_device.specs.Passing.{IsOneOf, pass_actor, pass_calls, pass_number}
+use Rattle.region_config.specs.Configurations.{Configuration}
+use Rattle.shared_device.specs.{declared.pass.Pass.Pass, declared.shared.Shared.Shared, Passing.IsOneOf, Passing.pass_actor, Passing.pass_calls, Passing.pass_number}
 
 -- these are all passes of the device
 pub record AreAllPasses (s : Shared) (passes : List Pass) : Type 0 where

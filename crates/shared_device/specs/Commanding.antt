@@ -2,10 +2,8 @@
 use Rattle.std.specs.Prelude.{ℕ, List, [], ◌∷◌, ◌++◌, replicate, flat_map}
 use Rattle.dcd_base.specs.declared.steps.Actor.{Actor}
 use Rattle.control_core.specs.device_rules.specs.Legal.{Legal}
-use Rattle.block_shard.specs.journal_core.specs.declared.entries.Entry.{Entry}
-use Rattle.region_config.specs.Configurations.{Configuration}
-use Rattle.region_config.specs.Granules.{hosts_of}
-use Rattle.block_shard.specs.ruled_cells.specs.Reads.{ChiefReads}
+use Rattle.block_shard.specs.{journal_core.specs.declared.entries.Entry.Entry, ruled_cells.specs.Reads.ChiefReads}
+use Rattle.region_config.specs.{Configurations.Configuration, Granules.hosts_of}
 
 -- the configuration that the control was made with, its commands and scrubs, how many more it has room for, and the
 -- actor of each pass

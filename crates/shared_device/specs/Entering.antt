@@ -2,26 +2,14 @@
 use Rattle.std.specs.Prelude.{◌≡◌, ℕ, suc, ◌^◌, ◌<◌, ◌≤◌, true, false, All, List, [], ◌∷◌, ◌++◌, length, None}
 use mathlib.Core.Option.{some}
 use lib.ListN.{get_elem?}
-use Rattle.control_core.specs.declared.plan.Plan.{Plan}
-use Rattle.control_core.specs.Deciding.{IsShort}
-use Rattle.control_core.specs.Steps.{IsNextEntry}
-use Rattle.dcd_base.specs.declared.steps.Actor.{Actor}
-use Rattle.dcd_base.specs.declared.steps.Stamp.{Stamp}
-use Rattle.control_core.specs.device_rules.specs.ChangedRuns.{AreChanges, LiesIn}
+use Rattle.control_core.specs.{Deciding.IsShort, Steps.IsNextEntry, declared.plan.Plan.Plan, device_rules.specs.ChangedRuns.AreChanges, device_rules.specs.ChangedRuns.LiesIn}
 use Rattle.control_core.specs.device_rules.specs.Legal.{Legal}
-use Rattle.block_shard.specs.journal_core.specs.declared.acts.Act.{Act}
-use Rattle.block_shard.specs.journal_core.specs.declared.acts.Reply.{Reply}
-use Rattle.block_shard.specs.journal_core.specs.declared.entries.Entry.{Entry}
-use Rattle.block_shard.specs.journal_core.specs.Entries.{effects}
+use Rattle.dcd_base.specs.declared.steps.{Actor.Actor, Stamp.Stamp}
+use Rattle.block_shard.specs.journal_core.specs.{Entries.effects, declared.acts.Act.Act, declared.acts.Reply.Reply, declared.entries.Entry.Entry}
+use Rattle.block_shard.specs.ruled_cells.specs.{Reads.about_of, Seats.HasCell, Seats.HasFirst, Seats.NoCell, Seats.seat_number, Seats.seat_view, Stamps.Below, Stamps.has_index}
+use Rattle.block_shard.specs.ruled_cells.specs.{Telling.begun, Telling.noted_view, declared.about.SeatView.SeatView, declared.seat.Seat.Seat}
+use Rattle.block_shard.specs.shard_laws.specs.{Belonging.touches_shard, Stripes.Stripe}
 use Rattle.region_config.specs.Granules.{granule_total}
-use Rattle.block_shard.specs.ruled_cells.specs.declared.about.SeatView.{SeatView}
-use Rattle.block_shard.specs.ruled_cells.specs.declared.seat.Seat.{Seat}
-use Rattle.block_shard.specs.ruled_cells.specs.Reads.{about_of}
-use Rattle.block_shard.specs.ruled_cells.specs.Seats.{HasCell, HasFirst, NoCell, seat_number, seat_view}
-use Rattle.block_shard.specs.ruled_cells.specs.Stamps.{Below, has_index}
-use Rattle.block_shard.specs.ruled_cells.specs.Telling.{begun, noted_view}
-use Rattle.block_shard.specs.shard_laws.specs.Belonging.{touches_shard}
-use Rattle.block_shard.specs.shard_laws.specs.Stripes.{Stripe}
 use Rattle.shared_device.specs.Commanding.{Commanding, commanding_reads}
 
 -- ---- plans

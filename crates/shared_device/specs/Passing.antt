@@ -2,18 +2,10 @@
 use Rattle.std.specs.Prelude.{◌≡◌, ℕ, List, [], ◌∷◌, ◌++◌, map}
 use mathlib.Core.Option.{some}
 use lib.ListN.{get_elem?}
-use Rattle.dcd_base.specs.declared.steps.Actor.{Actor}
-use Rattle.dcd_base.specs.declared.steps.Stamp.{Stamp}
-use Rattle.block_shard.specs.journal_core.specs.declared.acts.Act.{Act}
-use Rattle.block_shard.specs.journal_core.specs.declared.acts.Reply.{Reply}
-use Rattle.block_shard.specs.journal_core.specs.Merging.{Call, call_of}
-use Rattle.block_shard.specs.ruled_cells.specs.Calls.{IsOf, opened_with}
-use Rattle.block_shard.specs.ruled_cells.specs.Reads.{about_of}
-use Rattle.block_shard.specs.ruled_cells.specs.Seats.{saw_of, seat_view, tries_of}
-use Rattle.block_shard.specs.ruled_cells.specs.Stamps.{Below, stamp}
-use Rattle.shared_device.specs.Commanding.{commanding_reads}
-use Rattle.shared_device.specs.declared.pass.Pass.{Pass}
-use Rattle.shared_device.specs.declared.shared.Shared.{Shared}
+use Rattle.dcd_base.specs.declared.steps.{Actor.Actor, Stamp.Stamp}
+use Rattle.block_shard.specs.journal_core.specs.{Merging.Call, Merging.call_of, declared.acts.Act.Act, declared.acts.Reply.Reply}
+use Rattle.block_shard.specs.ruled_cells.specs.{Calls.IsOf, Calls.opened_with, Reads.about_of, Seats.saw_of, Seats.seat_view, Seats.tries_of, Stamps.Below, Stamps.stamp}
+use Rattle.shared_device.specs.{Commanding.commanding_reads, declared.pass.Pass.Pass, declared.shared.Shared.Shared}
 
 abbrev pub pass_number : Pass → ℕ
 pass_number p = p.seat.number

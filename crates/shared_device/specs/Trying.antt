@@ -1,16 +1,10 @@
 -- What tries tell.
-use Rattle.std.specs.Prelude.{◌≡◌, ◌≢◌, ℕ, suc, ◌+◌, ◌<◌}
-use Rattle.std.specs.declared.result.Result.{Result}
+use Rattle.std.specs.{Prelude.◌≡◌, Prelude.◌≢◌, Prelude.ℕ, Prelude.suc, Prelude.◌+◌, Prelude.◌<◌, declared.result.Result.Result}
 use Rattle.std.specs.declared.result.Result.TheVariants.{Ok, Err}
-use Rattle.block_shard.specs.journal_core.specs.declared.acts.Act.{Act}
-use Rattle.block_shard.specs.journal_core.specs.declared.acts.Reply.{Reply}
-use Rattle.block_shard.specs.ruled_cells.specs.Calls.{seats_of}
-use Rattle.block_shard.specs.ruled_cells.specs.Seats.{tried_at}
+use Rattle.block_shard.specs.{journal_core.specs.declared.acts.Act.Act, journal_core.specs.declared.acts.Reply.Reply, ruled_cells.specs.Calls.seats_of, ruled_cells.specs.Seats.tried_at}
 use Rattle.block_shard.specs.shard_laws.specs.Belonging.{shard_by}
-use Rattle.shared_device.specs.declared.faults.TryFault.{TryFault}
-use Rattle.shared_device.specs.declared.pass.Pass.{Pass}
+use Rattle.shared_device.specs.{Passing.Called, Passing.Uncalled, Passing.pass_actor, Passing.pass_number, Passing.pass_saw, declared.faults.TryFault.TryFault, declared.pass.Pass.Pass}
 use Rattle.shared_device.specs.declared.shared.Shared.{Shared}
-use Rattle.shared_device.specs.Passing.{Called, Uncalled, pass_actor, pass_number, pass_saw}
 
 -- the try was at the turn of the act's shard, or of shard 0 where it has no place
 abbrev pub AtItsShard : Shared → Act → Pass → Type 0

@@ -2,23 +2,13 @@
 use Rattle.std.specs.Prelude.{◌≡◌, ℕ, ◌^◌, ◌<◌, false, length, None}
 use mathlib.Core.Option.{some}
 use lib.ListN.{get_elem?}
-use Rattle.dcd_base.specs.declared.ids.HostId.{HostId}
-use Rattle.dcd_base.specs.declared.steps.Actor.{Actor}
-use Rattle.dcd_base.specs.declared.steps.Stamp.{Stamp}
-use Rattle.block_shard.specs.journal_core.specs.Accesses.{access_entry}
-use Rattle.block_shard.specs.journal_core.specs.declared.acts.Act.{Act}
-use Rattle.block_shard.specs.journal_core.specs.declared.acts.Reply.{Reply}
-use Rattle.block_shard.specs.journal_core.specs.Entries.{is_control}
+use Rattle.dcd_base.specs.declared.{ids.HostId.HostId, steps.Actor.Actor, steps.Stamp.Stamp}
+use Rattle.block_shard.specs.journal_core.specs.{Accesses.access_entry, Entries.is_control, declared.acts.Act.Act, declared.acts.Reply.Reply}
+use Rattle.block_shard.specs.ruled_cells.specs.{Seats.seat_number, Seats.seat_view, Stamps.Below, Telling.entered_view, declared.seat.Seat.Seat}
+use Rattle.block_shard.specs.shard_laws.specs.{Belonging.asked_at, Belonging.shard_at, Stripes.Stripe}
 use Rattle.media_map.specs.Places.{locate}
 use Rattle.region_config.specs.Configurations.{Configuration}
-use Rattle.block_shard.specs.ruled_cells.specs.declared.seat.Seat.{Seat}
-use Rattle.block_shard.specs.ruled_cells.specs.Seats.{seat_number, seat_view}
-use Rattle.block_shard.specs.ruled_cells.specs.Stamps.{Below}
-use Rattle.block_shard.specs.ruled_cells.specs.Telling.{entered_view}
-use Rattle.block_shard.specs.shard_laws.specs.Belonging.{asked_at, shard_at}
-use Rattle.block_shard.specs.shard_laws.specs.Stripes.{Stripe}
-use Rattle.shared_device.specs.Commanding.{Commanding}
-use Rattle.shared_device.specs.declared.target.Target.{Target}
+use Rattle.shared_device.specs.{Commanding.Commanding, declared.target.Target.Target}
 
 -- the place of the act's address for the host, and the shard of the place
 pub record IsTarget (c : Configuration) (act : Act) (t : Target) : Type 0 where

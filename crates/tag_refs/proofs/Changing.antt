@@ -1,7 +1,6 @@
 -- No change touches the tag.
 use Rattle.std.proofs.Common.{◌≡◌, refl}
-use Rattle.tag_refs.specs.Changes.{entry_changed}
-use Rattle.tag_refs.specs.declared.changes.Change.{Change}
+use Rattle.tag_refs.specs.{Changes.entry_changed, declared.changes.Change.Change}
 use Rattle.tag_refs.specs.declared.changes.Change.TheVariants.{Offer, Settle, Leave, Host, Refer, Soil}
 use Rattle.tag_refs.specs.declared.entries.TagEntry.{TagEntry}
 

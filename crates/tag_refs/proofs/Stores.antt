@@ -1,16 +1,10 @@
 -- What a write of the entry of a tag, and its removal, make of the table as it is stored.
 use Rattle.std.proofs.Common.{◌≡◌, false, List, [], ◌∷◌, ◌++◌, Option, Some, None, is_some, MutBor, refl, sym, ◌∙◌, ap, subst, true≢false}
-use Rattle.std.specs.List.{IsDistinct}
-use Rattle.std.specs.Map.{lookup, set_value, remove_entry, values_of, keys_of}
-use Rattle.std.specs.Option.{option_copied_mut}
-use Rattle.dcd_base.specs.Words.{same_tag}
-use Rattle.indexmap.specs.IndexMap.{IndexMap, get, insert_entry}
-use Rattle.indexmap.proofs.CallerLemmas.{insert_entry-new}
-use Rattle.dcd_base.specs.declared.capacity.Tag.{Tag}
-use Rattle.tag_refs.specs.declared.entries.TagEntry.{TagEntry}
-use Rattle.tag_refs.specs.Stored.{IsStored, stored}
-use Rattle.tag_refs.specs.Tables.{AreTags, entries_changed, entries_without, entry_with, has_entry}
+use Rattle.std.specs.{List.IsDistinct, Map.lookup, Map.set_value, Map.remove_entry, Map.values_of, Map.keys_of, Option.option_copied_mut}
+use Rattle.dcd_base.specs.{Words.same_tag, declared.capacity.Tag.Tag}
+use Rattle.indexmap.{specs.IndexMap.IndexMap, specs.IndexMap.get, specs.IndexMap.insert_entry, proofs.CallerLemmas.insert_entry-new}
 use Rattle.tag_refs.proofs.Tagged.{lookup_stored, set_stored, stored_apart, stored_push, values_stored, without_stored}
+use Rattle.tag_refs.specs.{Stored.IsStored, Stored.stored, Tables.AreTags, Tables.entries_changed, Tables.entries_without, Tables.entry_with, Tables.has_entry, declared.entries.TagEntry.TagEntry}
 
 pub values_at : (pairs : List (Tag × TagEntry)) (xs : List TagEntry) → pairs ≡ stored xs → values_of pairs ≡ xs
 values_at pairs xs is = ap values_of is ∙ values_stored xs

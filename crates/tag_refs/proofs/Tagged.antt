@@ -1,15 +1,9 @@
 -- What a change of one tag makes of the entries, none of which has the tag of another.
 use Rattle.std.proofs.Common.{ℕ, zero, suc, ◌≡◌, Bool, true, false, true≢false, cond, List, [], ◌∷◌, ◌++◌, map, take, slice_get, Some, refl, sym, ◌∙◌, ap, subst}
-use Rattle.std.specs.Cmp.Lexicographic.{same_text}
-use Rattle.std.specs.List.{AllByRecursion, IsDistinct}
-use Rattle.std.specs.Map.{lookup, set_value, remove_entry, values_of, keys_of}
-use Rattle.std.proofs.lemmas.Cmp.{nat_list_eq_equiv}
-use Rattle.std.proofs.lemmas.Map.Keys.{IsDistinct-head, IsDistinct-tail}
-use Rattle.dcd_base.specs.Words.{same_tag}
-use Rattle.dcd_base.specs.declared.capacity.Tag.{Tag}
-use Rattle.tag_refs.specs.declared.entries.TagEntry.{TagEntry}
-use Rattle.tag_refs.specs.Stored.{stored}
-use Rattle.tag_refs.specs.Tables.{entries_changed, entries_without, entry_with, has_entry, is_entry_of}
+use Rattle.std.{proofs.lemmas.Cmp.nat_list_eq_equiv, proofs.lemmas.Map.Keys.IsDistinct-head, proofs.lemmas.Map.Keys.IsDistinct-tail, specs.Cmp.Lexicographic.same_text}
+use Rattle.std.specs.{List.AllByRecursion, List.IsDistinct, Map.lookup, Map.set_value, Map.remove_entry, Map.values_of, Map.keys_of}
+use Rattle.dcd_base.specs.{Words.same_tag, declared.capacity.Tag.Tag}
+use Rattle.tag_refs.specs.{declared.entries.TagEntry.TagEntry, Stored.stored, Tables.entries_changed, Tables.entries_without, Tables.entry_with, Tables.has_entry, Tables.is_entry_of}
 
 -- no two of the entries have one tag
 abbrev pub AreApart : List TagEntry → Type 0

@@ -1,7 +1,6 @@
 -- What a change makes of an entry.
 use Rattle.std.specs.Prelude.{◌<◌}
-use Rattle.tag_refs.specs.Tables.{entry_with_offer, settled_by, left_by, set_by, with_reference, with_soil}
-use Rattle.tag_refs.specs.declared.changes.Change.{Change}
+use Rattle.tag_refs.specs.{Tables.entry_with_offer, Tables.settled_by, Tables.left_by, Tables.set_by, Tables.with_reference, Tables.with_soil, declared.changes.Change.Change}
 use Rattle.tag_refs.specs.declared.changes.Change.TheVariants.{Offer, Settle, Leave, Host, Refer, Soil}
 use Rattle.tag_refs.specs.declared.entries.TagEntry.{TagEntry}
 

@@ -1,6 +1,5 @@
 -- How the table is stored: each entry under its tag.
-use Rattle.std.specs.Prelude.{◌≡◌, ℕ, List, if◌then◌else◌, map, min, nat_le}
-use Rattle.std.specs.Map.{values_of}
+use Rattle.std.specs.{Prelude.◌≡◌, Prelude.ℕ, Prelude.List, Prelude.if◌then◌else◌, Prelude.map, Prelude.min, Prelude.nat_le, Map.values_of}
 use Rattle.dcd_base.specs.declared.capacity.Tag.{Tag}
 use Rattle.tag_refs.specs.declared.entries.TagEntry.{TagEntry}
 

@@ -1,12 +1,8 @@
 -- The table of live tags, and what each call makes of it.
 use Rattle.std.specs.Prelude.{ℕ, ◌==◌, Bool, true, false, if◌then◌else◌, not, ◌||◌, Option, Some, None, is_some, List, map, filter}
 use Rattle.std.specs.List.{find, IsDistinct}
-use Rattle.dcd_base.specs.Words.{same_tag}
-use Rattle.dcd_base.specs.declared.capacity.Tag.{Tag}
-use Rattle.dcd_base.specs.declared.media.Run.{Run}
-use Rattle.dcd_base.specs.Hosts.{has_host, with_host, without_host}
+use Rattle.dcd_base.specs.{Words.same_tag, declared.capacity.Tag.Tag, declared.media.Run.Run, Hosts.has_host, Hosts.with_host, Hosts.without_host, declared.tags.TagView.TagView}
 use Rattle.tag_refs.specs.declared.entries.TagEntry.{TagEntry}
-use Rattle.dcd_base.specs.declared.tags.TagView.{TagView}
 
 -- the entries in the order of opening, and for how many tags more there is memory
 pub record TagTable : Type 0 where

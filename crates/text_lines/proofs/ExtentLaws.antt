@@ -1,11 +1,8 @@
 -- Extents as a word says them.
 use Rattle.std.proofs.Common.{◌≡◌, ℕ, ◌+◌, ◌-◌, ◌^◌, Bool, true, false, cond, ◌&&◌, nat_le, List, [], length, Option, Some, None, Ok, Err, refl, sym, ap, ◌∙◌, arith}
 use Rattle.std.proofs.lemmas.List.{drop_all}
-use Rattle.text_lines.specs.Characters.{passed_from, is_other}
-use Rattle.text_lines.specs.Extents.{after, before, extent_of_parts, extent_said, limited_extent, untagged}
-use Rattle.text_lines.specs.WordChains.{◌>>?◌ as ◌>>=◌}
-use Rattle.text_lines.specs.Numbers.{limited, number_said}
-use Rattle.text_lines.specs.declared.word_faults.NumberFault.{NumberFault}
+use Rattle.text_lines.specs.{Characters.passed_from, Characters.is_other, Extents.after, Extents.before, Extents.extent_of_parts, Extents.extent_said, Extents.limited_extent, Extents.untagged}
+use Rattle.text_lines.specs.{Numbers.limited, Numbers.number_said, WordChains.◌>>?◌ as ◌>>=◌, declared.word_faults.NumberFault.NumberFault}
 
 -- nothing says no number
 pub nothing_said : number_said [] ≡ None

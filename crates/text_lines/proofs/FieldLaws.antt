@@ -2,17 +2,10 @@
 use Rattle.std.proofs.Common.{◌≡◌, ℕ, ◌<◌, ◌≤◌, Bool, true, false, cond, ◌==◌, nat_le, List, [], ◌∷◌, ◌++◌, length, Option, Some, None, Result, Ok, Err, refl, sym, ap, ◌∙◌, subst, inl, inr, arith}
 use lib.Pointwise.{pointwise, bytes_decides}
 use Rattle.std.proofs.lemmas.Bool.{cases_Bool, cond-false, cond-true, le-leb, leb-true}
-use Rattle.text_lines.specs.Numbers.{limited, number_said}
-use Rattle.text_lines.specs.Unread.{UnreadWords, behind_next, behind_first, leading_word, is_done, first_unread, none_left}
-use Rattle.text_lines.specs.declared.word_faults.NumberFault.{NumberFault}
-use Rattle.text_lines.specs.Chains.{◌>>!◌ as ◌>>=◌}
+use Rattle.text_lines.specs.{Chains.◌>>!◌ as ◌>>=◌, Keywords.keyword_text, Numbers.limited, Numbers.number_said, Parts.Form, Parts.Part, Parts.ReadsPart, Parts.SaysNumber, Parts.Takes, Parts.key}
+use Rattle.text_lines.specs.{Unread.UnreadWords, Unread.behind_next, Unread.behind_first, Unread.leading_word, Unread.is_done, Unread.first_unread, Unread.none_left, declared.faults.Cause.Cause}
+use Rattle.text_lines.specs.declared.{faults.TextFault.TextFault, faults.Wanted.Wanted, keywords.Keyword.Keyword, word_faults.NumberFault.NumberFault}
 use Rattle.text_lines.specs.Fields.{begins, flag_ahead, end_ahead, keyword_ahead, may_ahead, named_ahead, number_ahead, number_of_word, number_or, one_word, refused, told}
-use Rattle.text_lines.specs.Keywords.{keyword_text}
-use Rattle.text_lines.specs.Parts.{Form, Part, ReadsPart, SaysNumber, Takes, key}
-use Rattle.text_lines.specs.declared.faults.Cause.{Cause}
-use Rattle.text_lines.specs.declared.faults.TextFault.{TextFault}
-use Rattle.text_lines.specs.declared.faults.Wanted.{Wanted}
-use Rattle.text_lines.specs.declared.keywords.Keyword.{Keyword}
 
 -- ---- one step after another
 -- What was read, and the words behind it.

@@ -1,7 +1,6 @@
 -- How far characters pass a test, by the first place where one does not.
 use Rattle.std.proofs.Common.{◌≡◌, ℕ, zero, suc, ◌<◌, Bool, true, false, List, [], ◌∷◌, length, get_or, refl, ap, ◌∙◌, arith}
-use Rattle.text_lines.specs.Characters.{passed_from}
-use Rattle.text_lines.proofs.WordLaws.{front_more, front_none}
+use Rattle.text_lines.{specs.Characters.passed_from, proofs.WordLaws.front_more, proofs.WordLaws.front_none}
 
 pub passed_all : (test : ℕ → Bool) (bytes : List ℕ) → ((j : ℕ) → j < length bytes → test (get_or bytes j 0) ≡ true) → passed_from test 0 bytes ≡ length bytes
 passed_all test [] each = refl

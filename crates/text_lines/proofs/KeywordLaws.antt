@@ -3,14 +3,8 @@ use Rattle.std.proofs.Common.{◌≡◌, ℕ, false, ◌==◌, List, [], ◌∷�
 use lib.Pointwise.{pointwise, bytes_decides}
 use Rattle.std.proofs.lemmas.Bool.{cases_Bool}
 use Rattle.dcd_base.specs.declared.capacity.Extent.{Extent}
-use Rattle.text_lines.specs.Extents.{extent_said}
-use Rattle.text_lines.specs.Numbers.{digits_from, number_said}
-use Rattle.text_lines.specs.Unread.{leading_word}
-use Rattle.text_lines.specs.Keywords.{keyword_text}
-use Rattle.text_lines.specs.Parts.{AllSay, SaysExtent, SaysNumber}
-use Rattle.text_lines.specs.declared.keywords.Keyword.{Keyword}
-use Rattle.text_lines.proofs.FieldLaws.{IsNot}
-use Rattle.text_lines.proofs.ListLaws.{Stops}
+use Rattle.text_lines.{proofs.FieldLaws.IsNot, proofs.ListLaws.Stops, specs.Extents.extent_said, specs.Keywords.keyword_text, specs.Numbers.digits_from, specs.Numbers.number_said}
+use Rattle.text_lines.specs.{Parts.AllSay, Parts.SaysExtent, Parts.SaysNumber, Unread.leading_word, declared.keywords.Keyword.Keyword}
 
 -- no keyword is a number or an extent
 no_number : (k : Keyword) → number_said (keyword_text k) ≡ None

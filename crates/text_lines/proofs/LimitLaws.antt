@@ -1,8 +1,6 @@
 -- A number that was read in 64 bits, and then limited further.
 use Rattle.std.proofs.Common.{◌≡◌, ℕ, ◌-◌, ◌*◌, ◌^◌, ◌<◌, ◌≤◌, nat_le, nat_lt, Option, Some, None, refl, false, arith, inl, inr}
-use Rattle.std.specs.Option.{option_map}
-use Rattle.std.proofs.Math.Nat.{le-mul_of_pos_right}
-use Rattle.std.proofs.lemmas.Bool.{cases_Bool, leb-false, le-ltb, lt-leb}
+use Rattle.std.{specs.Option.option_map, proofs.Math.Nat.le-mul_of_pos_right, proofs.lemmas.Bool.cases_Bool, proofs.lemmas.Bool.leb-false, proofs.lemmas.Bool.le-ltb, proofs.lemmas.Bool.lt-leb}
 use Rattle.text_lines.specs.Numbers.{at_less, at_most, in_unit, limited, limited_64, under}
 
 pub unit_limited : (unit : ℕ) (read : Option ℕ) → 0 < unit → in_unit unit (limited_64 read) ≡ limited_64 (option_map (λ n. n * unit) read)

@@ -1,43 +1,27 @@
 -- Lines of a script: what is read is what the words say, and the other way round.
 use Rattle.std.proofs.Common.{◌≡◌, ℕ, cond, ◌==◌, ◌⊎◌, List, [], ◌∷◌, ◌++◌, Option, Some, None, Result, Ok, refl, sym, ap, ◌∙◌, subst, inl, inr, append-nil}
 use lib.Pointwise.{pointwise, bytes_decides}
-use Rattle.std.specs.Prelude.{codes}
-use Rattle.std.proofs.lemmas.Bool.{cases_Bool, cond-false, cond-true}
+use Rattle.std.{specs.Prelude.codes, proofs.lemmas.Bool.cases_Bool, proofs.lemmas.Bool.cond-false, proofs.lemmas.Bool.cond-true}
 use Rattle.cci_codec.specs.declared.messages.Request.{Request}
-use Rattle.dcd_base.specs.declared.ids.HostId.{HostId}
-use Rattle.dcd_base.specs.declared.steps.Actor.{Actor}
+use Rattle.dcd_base.specs.declared.{ids.HostId.HostId, steps.Actor.Actor}
 use Rattle.fm_payloads.specs.declared.requests.FmRequest.{FmRequest}
 use Rattle.host_payloads.specs.declared.requests.HostRequest.{HostRequest}
 use Rattle.journal_core.specs.declared.acts.Act.{Act}
 use Rattle.script_codec.specs.declared.script_line.Line.{Line}
-use Rattle.text_lines.specs.Unread.{UnreadWords, first_unread}
-use Rattle.text_lines.specs.Actors.{actor_ahead, actor_of_word}
-use Rattle.text_lines.specs.Commands.{host_command_said, host_command_text, manager_command_said, manager_command_text}
-use Rattle.text_lines.specs.Chains.{◌>>!◌ as ◌>>=◌}
-use Rattle.text_lines.specs.Fields.{end_ahead, may_ahead, number_ahead, one_word}
-use Rattle.text_lines.specs.HostRequests.{host_request_ahead}
-use Rattle.text_lines.specs.Keywords.{keyword_text}
-use Rattle.text_lines.specs.Layouts.{NamesHostCommand, NamesManagerCommand, SaysAct, SaysLine, TellsBytes, command_line, host_command_of, host_tail, load_parts, manager_command_of, manager_tail, most_64, store_parts, tag_part}
-use Rattle.text_lines.specs.Lines.{actor_line_ahead, bytes_ahead, command_ahead, host_act_ahead, host_asked_ahead, host_message, host_rest_ahead, host_word, host_word_of, line_by, load_ahead, manager_act_ahead, manager_asked_ahead, manager_message, manager_word, message_said, opened_ahead, opening_ahead, opening_of_word, rest_ahead, scrub_ahead, speaker_act_ahead, store_ahead}
-use Rattle.text_lines.specs.ManagerRequests.{manager_request_ahead}
-use Rattle.text_lines.specs.Parts.{Form, Part, ReadsPart, ReadsParts, Takes}
-use Rattle.text_lines.specs.declared.actors.Frame.{Frame}
-use Rattle.text_lines.specs.declared.actors.Speaker.{Speaker}
-use Rattle.text_lines.specs.declared.commands.HostCommand.{HostCommand}
-use Rattle.text_lines.specs.declared.commands.ManagerCommand.{ManagerCommand}
-use Rattle.text_lines.specs.declared.faults.Cause.{Cause}
-use Rattle.text_lines.specs.declared.faults.TextFault.{TextFault}
-use Rattle.text_lines.specs.declared.faults.Wanted.{Wanted}
-use Rattle.text_lines.specs.declared.keywords.Keyword.{Keyword}
-use Rattle.text_lines.specs.declared.openings.HostWord.{HostWord}
-use Rattle.text_lines.specs.declared.openings.Opening.{Opening}
-use Rattle.text_lines.proofs.FieldLaws.{Goes, Took, bound, end_goes, end_sound, goes_then, may_goes, may_sound, number_goes, number_sound, ok_is, one_goes, one_sound, took_one, took_then}
-use Rattle.text_lines.proofs.ListLaws.{Stops}
-use Rattle.text_lines.proofs.MessageLaws.{bytes_goes, bytes_sound, message_goes, message_sound}
+use Rattle.text_lines.proofs.{ListLaws.Stops, MessageLaws.bytes_goes, MessageLaws.bytes_sound, MessageLaws.message_goes, MessageLaws.message_sound}
 use Rattle.text_lines.proofs.NameLaws.{host_command_known, host_command_named, manager_command_known, manager_command_named}
 use Rattle.text_lines.proofs.OpeningLaws.{OpenedBy, opened_by, opens_actor, opens_command, opens_mark, opens_scrub}
 use Rattle.text_lines.proofs.PartLaws.{actor_by, actor_goes, actor_sound, lane_by, says_speaker}
 use Rattle.text_lines.proofs.RequestLaws.{goes_made, host_request_goes, host_request_sound, made_of, manager_request_goes, manager_request_sound}
+use Rattle.text_lines.specs.{Actors.actor_ahead, Actors.actor_of_word, Chains.◌>>!◌ as ◌>>=◌}
+use Rattle.text_lines.specs.Commands.{host_command_said, host_command_text, manager_command_said, manager_command_text}
+use Rattle.text_lines.specs.{Fields.end_ahead, Fields.may_ahead, Fields.number_ahead, Fields.one_word, HostRequests.host_request_ahead, Keywords.keyword_text, ManagerRequests.manager_request_ahead}
+use Rattle.text_lines.specs.{Parts.Form, Parts.Part, Parts.ReadsPart, Parts.ReadsParts, Parts.Takes, Unread.UnreadWords, Unread.first_unread, declared.actors.Frame.Frame}
+use Rattle.text_lines.specs.declared.{actors.Speaker.Speaker, commands.HostCommand.HostCommand, commands.ManagerCommand.ManagerCommand, faults.Cause.Cause, faults.TextFault.TextFault}
+use Rattle.text_lines.specs.declared.{faults.Wanted.Wanted, keywords.Keyword.Keyword, openings.HostWord.HostWord, openings.Opening.Opening}
+use Rattle.text_lines.specs.Layouts.{NamesHostCommand, NamesManagerCommand, SaysAct, SaysLine, TellsBytes, command_line, host_command_of, host_tail, load_parts, manager_command_of, manager_tail, most_64, store_parts, tag_part}
+use Rattle.text_lines.specs.Lines.{actor_line_ahead, bytes_ahead, command_ahead, host_act_ahead, host_asked_ahead, host_message, host_rest_ahead, host_word, host_word_of, line_by, load_ahead, manager_act_ahead, manager_asked_ahead, manager_message, manager_word, message_said, opened_ahead, opening_ahead, opening_of_word, rest_ahead, scrub_ahead, speaker_act_ahead, store_ahead}
+use Rattle.text_lines.proofs.FieldLaws.{Goes, Took, bound, end_goes, end_sound, goes_then, may_goes, may_sound, number_goes, number_sound, ok_is, one_goes, one_sound, took_one, took_then}
 
 -- ---- parts in front and parts behind
 pub record Split (words rest : List (List ℕ)) (ps qs : List Part) : Type 0 where

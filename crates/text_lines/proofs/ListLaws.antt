@@ -3,17 +3,10 @@ use Rattle.std.proofs.Common.{◌≡◌, ℕ, ◌+◌, ◌-◌, ◌<◌, ◌≤�
 use lib.Pointwise.{pointwise, bytes_decides}
 use Rattle.std.proofs.lemmas.Bool.{cases_Bool, cond-false, cond-true, eqb-false, ne_eqb}
 use Rattle.dcd_base.specs.declared.capacity.Extent.{Extent}
-use Rattle.text_lines.specs.Extents.{extent_said, fits_64, limited_extent}
-use Rattle.text_lines.specs.Unread.{UnreadWords, behind_next, leading_word}
-use Rattle.text_lines.specs.declared.word_faults.NumberFault.{NumberFault}
-use Rattle.text_lines.specs.Chains.{◌>>!◌ as ◌>>=◌}
-use Rattle.text_lines.specs.Fields.{and_room, extent_of_word, extent_or, list_at, list_behind, told}
-use Rattle.text_lines.specs.Keywords.{keyword_text}
-use Rattle.text_lines.specs.Parts.{AllSay, SaysExtent}
-use Rattle.text_lines.specs.declared.faults.Cause.{Cause}
-use Rattle.text_lines.specs.declared.faults.TextFault.{TextFault}
-use Rattle.text_lines.specs.declared.keywords.Keyword.{Keyword}
-use Rattle.text_lines.proofs.FieldLaws.{Goes, bound, ok_is}
+use Rattle.text_lines.{proofs.FieldLaws.Goes, proofs.FieldLaws.bound, proofs.FieldLaws.ok_is, specs.Chains.◌>>!◌ as ◌>>=◌}
+use Rattle.text_lines.specs.{Extents.extent_said, Extents.fits_64, Extents.limited_extent, Fields.and_room, Fields.extent_of_word, Fields.extent_or, Fields.list_at, Fields.list_behind, Fields.told}
+use Rattle.text_lines.specs.{Keywords.keyword_text, Parts.AllSay, Parts.SaysExtent, Unread.UnreadWords, Unread.behind_next, Unread.leading_word, declared.faults.Cause.Cause}
+use Rattle.text_lines.specs.declared.{faults.TextFault.TextFault, keywords.Keyword.Keyword, word_faults.NumberFault.NumberFault}
 
 -- ---- extents
 pub says_extent : (x : Extent) (word : List ℕ) → SaysExtent x word → extent_of_word word ≡ Ok x

@@ -2,16 +2,10 @@
 use Rattle.std.proofs.Common.{◌≡◌, ℕ, ◌+◌, ◌-◌, ◌<◌, ◌≤◌, true, false, ◌==◌, nat_lt, ◌⊎◌, List, [], ◌∷◌, ◌++◌, length, Option, Some, None, Result, Ok, Err, refl, sym, ap, ◌∙◌, inl, inr, arith, append-nil, append_assoc}
 use lib.Pointwise.{pointwise}
 use Rattle.std.proofs.lemmas.Bool.{cond-false, cond-true, le-ltb, lt-ltb}
-use Rattle.text_lines.specs.Pairs.{AppendsPairs, pairs_said}
-use Rattle.text_lines.specs.Unread.{UnreadWords, behind_next, leading_word, is_done, first_unread, none_left}
-use Rattle.text_lines.specs.Chains.{◌>>!◌ as ◌>>=◌}
-use Rattle.text_lines.specs.Fields.{and_room, begins, list_at, list_behind, list_ahead, one_word, refused, told}
-use Rattle.text_lines.specs.Keywords.{keyword_text}
-use Rattle.text_lines.specs.Lines.{bytes_at, bytes_or, bytes_with_room}
-use Rattle.text_lines.specs.declared.faults.Cause.{Cause}
-use Rattle.text_lines.specs.declared.faults.TextFault.{TextFault}
-use Rattle.text_lines.specs.declared.faults.Wanted.{Wanted}
-use Rattle.text_lines.specs.declared.keywords.Keyword.{Keyword}
+use Rattle.text_lines.specs.{Chains.◌>>!◌ as ◌>>=◌, Fields.and_room, Fields.begins, Fields.list_at, Fields.list_behind, Fields.list_ahead, Fields.one_word, Fields.refused, Fields.told}
+use Rattle.text_lines.specs.{Keywords.keyword_text, Lines.bytes_at, Lines.bytes_or, Lines.bytes_with_room, Pairs.AppendsPairs, Pairs.pairs_said}
+use Rattle.text_lines.specs.{Unread.UnreadWords, Unread.behind_next, Unread.leading_word, Unread.is_done, Unread.first_unread, Unread.none_left, declared.faults.Cause.Cause}
+use Rattle.text_lines.specs.declared.{faults.TextFault.TextFault, faults.Wanted.Wanted, keywords.Keyword.Keyword}
 
 module _ {A : Type 0} (read : List ℕ → Result A Cause) where
   -- the list ends where no word is left, or the message tag comes

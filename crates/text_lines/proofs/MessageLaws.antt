@@ -1,21 +1,12 @@
 -- Messages byte by byte: what is read is what the words tell.
 use Rattle.std.proofs.Common.{◌≡◌, ℕ, zero, suc, ◌+◌, ◌<◌, ◌≤◌, false, nat_lt, List, [], ◌∷◌, ◌++◌, length, Option, Some, None, Result, Ok, Err, refl, sym, ap, ◌∙◌, subst, inl, inr, arith, append-nil, append_assoc, length-append}
 use Rattle.std.proofs.lemmas.Bool.{cases_Bool, cond-false, cond-true, le-ltb, ltb-false}
-use Rattle.cci_codec.specs.Messages.{ReadsRequest, message_fault, request_in}
-use Rattle.cci_codec.specs.declared.faults.MessageFault.{MessageFault}
-use Rattle.cci_codec.specs.declared.messages.Request.{Request}
-use Rattle.cci_codec.proofs.Reading.{no_message_fault, request_read, request_reads}
+use Rattle.cci_codec.{proofs.Reading.no_message_fault, proofs.Reading.request_read, proofs.Reading.request_reads, specs.Messages.ReadsRequest, specs.Messages.message_fault, specs.Messages.request_in}
+use Rattle.cci_codec.specs.declared.{faults.MessageFault.MessageFault, messages.Request.Request}
 use Rattle.dcd_base.proofs.Fields.{IsBytes}
-use Rattle.text_lines.specs.Pairs.{pairs_said}
-use Rattle.text_lines.proofs.PrintedPairs.{pairs_small}
-use Rattle.text_lines.specs.Unread.{UnreadWords, behind_next, is_done}
-use Rattle.text_lines.specs.Chains.{◌>>!◌ as ◌>>=◌}
-use Rattle.text_lines.specs.Fields.{refused, told}
-use Rattle.text_lines.specs.Lines.{bytes_ahead, bytes_at, bytes_or, bytes_with_room, message_or_fault, message_said}
-use Rattle.text_lines.specs.Parts.{AreBytes}
-use Rattle.text_lines.specs.declared.faults.Cause.{Cause}
-use Rattle.text_lines.specs.declared.faults.Wanted.{Wanted}
-use Rattle.text_lines.proofs.FieldLaws.{Goes, bound, ok_is}
+use Rattle.text_lines.{proofs.FieldLaws.Goes, proofs.FieldLaws.bound, proofs.FieldLaws.ok_is, proofs.PrintedPairs.pairs_small, specs.Chains.◌>>!◌ as ◌>>=◌, specs.Fields.refused, specs.Fields.told}
+use Rattle.text_lines.specs.{Lines.bytes_ahead, Lines.bytes_at, Lines.bytes_or, Lines.bytes_with_room, Lines.message_or_fault, Lines.message_said, Pairs.pairs_said, Parts.AreBytes}
+use Rattle.text_lines.specs.{Unread.UnreadWords, Unread.behind_next, Unread.is_done, declared.faults.Cause.Cause, declared.faults.Wanted.Wanted}
 
 -- ---- bytes in words
 abbrev at_words : ℕ → ℕ → List (List ℕ) → UnreadWords

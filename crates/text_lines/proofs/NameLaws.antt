@@ -2,8 +2,7 @@
 use Rattle.std.proofs.Common.{◌≡◌, ℕ, cond, ◌==◌, ◌⊎◌, List, Option, Some, refl, sym, ap, ◌∙◌, inl, inr}
 use lib.Pointwise.{pointwise, bytes_decides}
 use Rattle.std.proofs.lemmas.Bool.{cases_Bool, cond-false, cond-true}
-use Rattle.text_lines.specs.Commands.{host_command_said, host_command_text, manager_command_said, manager_command_text}
-use Rattle.text_lines.specs.declared.commands.HostCommand.{HostCommand}
+use Rattle.text_lines.specs.{Commands.host_command_said, Commands.host_command_text, Commands.manager_command_said, Commands.manager_command_text, declared.commands.HostCommand.HostCommand}
 use Rattle.text_lines.specs.declared.commands.ManagerCommand.{ManagerCommand}
 
 -- a name that was chosen, or one that comes later

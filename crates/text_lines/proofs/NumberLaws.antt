@@ -1,12 +1,7 @@
 -- The value of digits that is kept below a bound while they are read.
 use Rattle.std.proofs.Common.{◌≡◌, ℕ, ◌+◌, ◌*◌, ◌^◌, ◌<◌, ◌≤◌, List, [], ◌∷◌, length, drop, get_or, Option, Some, None, refl, sym, ap, ◌∙◌, inl, inr, arith}
-use Rattle.std.specs.Option.{option_map}
-use Rattle.std.proofs.Math.Nat.{le-mul_of_pos_right}
-use Rattle.std.proofs.lemmas.Bool.{cases_lt}
-use Rattle.std.proofs.lemmas.List.{drop_all, drop_more}
-use Rattle.text_lines.specs.Characters.{digit_in}
-use Rattle.text_lines.specs.WordChains.{◌>>?◌ as ◌>>=◌}
-use Rattle.text_lines.specs.Numbers.{capped_64, digits_from}
+use Rattle.std.{specs.Option.option_map, proofs.Math.Nat.le-mul_of_pos_right, proofs.lemmas.Bool.cases_lt, proofs.lemmas.List.drop_all, proofs.lemmas.List.drop_more}
+use Rattle.text_lines.specs.{Characters.digit_in, WordChains.◌>>?◌ as ◌>>=◌, Numbers.capped_64, Numbers.digits_from}
 
 -- a number above the bound stays above it
 above : (base n d : ℕ) → 0 < base → 2 ^ 64 ≤ n → capped_64 (n * base + d) ≡ 2 ^ 64

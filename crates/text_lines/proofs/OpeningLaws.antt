@@ -1,19 +1,10 @@
 -- What the first word of a line begins.
 use Rattle.std.proofs.Common.{◌≡◌, ℕ, Bool, true, false, cond, ◌==◌, ◌&&◌, ◌⊎◌, List, Some, None, Result, Ok, Err, refl, sym, ap, ◌∙◌, subst, inl, inr}
 use lib.Pointwise.{pointwise, bytes_decides}
-use Rattle.std.specs.Prelude.{Option, codes}
-use Rattle.std.proofs.lemmas.Bool.{cases_Bool, cond-false, cond-true}
-use Rattle.text_lines.specs.Numbers.{digits_from, under}
-use Rattle.text_lines.specs.declared.word_faults.NumberFault.{NumberFault}
-use Rattle.text_lines.specs.Actors.{actor_of_seat, actor_of_word, has_dot, host_said, is_manager_word, seat_of_parts, seat_said}
-use Rattle.text_lines.specs.Keywords.{keyword_text}
-use Rattle.text_lines.specs.Lines.{opening_of_actor, opening_of_word}
-use Rattle.text_lines.specs.declared.actors.Frame.{Frame}
-use Rattle.text_lines.specs.declared.actors.Speaker.{Speaker}
-use Rattle.text_lines.specs.declared.faults.Cause.{Cause}
-use Rattle.text_lines.specs.declared.faults.Wanted.{Wanted}
-use Rattle.text_lines.specs.declared.keywords.Keyword.{Keyword}
-use Rattle.text_lines.specs.declared.openings.Opening.{Opening}
+use Rattle.std.{specs.Prelude.Option, specs.Prelude.codes, proofs.lemmas.Bool.cases_Bool, proofs.lemmas.Bool.cond-false, proofs.lemmas.Bool.cond-true}
+use Rattle.text_lines.specs.{Actors.actor_of_seat, Actors.actor_of_word, Actors.has_dot, Actors.host_said, Actors.is_manager_word, Actors.seat_of_parts, Actors.seat_said, Keywords.keyword_text}
+use Rattle.text_lines.specs.{Lines.opening_of_actor, Lines.opening_of_word, Numbers.digits_from, Numbers.under, declared.actors.Frame.Frame, declared.actors.Speaker.Speaker}
+use Rattle.text_lines.specs.declared.{faults.Cause.Cause, faults.Wanted.Wanted, keywords.Keyword.Keyword, openings.Opening.Opening, word_faults.NumberFault.NumberFault}
 
 -- ---- words that are no actors
 no_dot : (b : Bool) → (b && false) ≡ false

@@ -1,7 +1,6 @@
 -- Bytes as pairs of digits.
 use Rattle.std.proofs.Common.{◌≡◌, ℕ, ◌<◌, ◌≤◌, ◌==◌, false, List, [], ◌∷◌, ◌++◌, length, take, drop, get_or, Option, Some, None, refl, sym, ap, ◌∙◌, arith, append-nil, append_assoc}
-use Rattle.text_lines.specs.WordChains.{◌>>?◌ as ◌>>=◌}
-use Rattle.text_lines.specs.Pairs.{AppendsPairs, pair_said, pairs_said}
+use Rattle.text_lines.specs.{WordChains.◌>>?◌ as ◌>>=◌, Pairs.AppendsPairs, Pairs.pair_said, Pairs.pairs_said}
 
 -- bytes behind those that are there
 abbrev pub pairs_behind : List ℕ → Option (List ℕ) → Option (List ℕ)

@@ -1,30 +1,18 @@
 -- Parts that are lists, tags, hosts and policies: what is read of them is what their words say.
 use Rattle.std.proofs.Common.{◌≡◌, ℕ, ◌<◌, ◌≤◌, Bool, true, false, cond, nat_lt, List, [], ◌∷◌, ◌++◌, length, Option, Some, None, Result, Ok, Err, refl, sym, ap, ◌∙◌, subst, inl, inr, arith}
-use Rattle.std.specs.List.{list_all}
 use Rattle.std.proofs.lemmas.Bool.{and_from, cases_Bool, cond-false, cond-true, lt-ltb, ltb-true}
-use Rattle.dcd_base.specs.Words.{zero_tag}
-use Rattle.dcd_base.specs.declared.capacity.Extent.{Extent}
-use Rattle.dcd_base.specs.declared.capacity.Tag.{Tag}
-use Rattle.dcd_base.specs.declared.steps.Actor.{Actor}
+use Rattle.std.specs.List.{list_all}
+use Rattle.dcd_base.specs.{Words.zero_tag, declared.capacity.Extent.Extent, declared.capacity.Tag.Tag, declared.steps.Actor.Actor}
 use Rattle.host_payloads.specs.HostPayloads.{is_untagged}
-use Rattle.text_lines.specs.WordChains.{◌>>?◌ as ◌>>=◌}
-use Rattle.text_lines.specs.Extents.{after, before, extent_said, untagged}
-use Rattle.text_lines.specs.Numbers.{number_said, under}
-use Rattle.text_lines.specs.Pairs.{tag_said}
-use Rattle.text_lines.specs.Unread.{UnreadWords, behind_next, behind_first, first_unread}
-use Rattle.text_lines.specs.declared.word_faults.NumberFault.{NumberFault}
-use Rattle.text_lines.specs.Actors.{SaysActor, actor_ahead, actor_of_word, host_ahead, host_or, host_said}
-use Rattle.text_lines.specs.Fields.{begins, extent_of_word, extents_ahead, handles_ahead, list_behind, list_ahead, may_tag_ahead, number_ahead, number_of_word, tag_ahead, tag_or}
-use Rattle.text_lines.specs.Keywords.{keyword_text}
-use Rattle.text_lines.specs.Parts.{AllSay, Form, Part, ReadsPart, SaysExtent, SaysNumber}
-use Rattle.text_lines.specs.declared.actors.Frame.{Frame}
-use Rattle.text_lines.specs.declared.actors.Speaker.{Speaker}
-use Rattle.text_lines.specs.declared.faults.Cause.{Cause}
-use Rattle.text_lines.specs.declared.faults.Wanted.{Wanted}
-use Rattle.text_lines.specs.declared.keywords.Keyword.{Keyword}
-use Rattle.text_lines.proofs.FieldLaws.{Goes, IsNot, Took, begins_not, begins_with, begins_words, bound, goes_then, number_goes, number_says, ok_is, one_goes, one_sound, says_number, took_one}
 use Rattle.text_lines.proofs.KeywordLaws.{extent_not, number_not}
 use Rattle.text_lines.proofs.ListLaws.{Stops, behind_goes, behind_is, extent_says, list_goes, list_sound, says_extent}
+use Rattle.text_lines.specs.Actors.{SaysActor, actor_ahead, actor_of_word, host_ahead, host_or, host_said}
+use Rattle.text_lines.specs.{Extents.after, Extents.before, Extents.extent_said, Extents.untagged, Keywords.keyword_text, Numbers.number_said, Numbers.under, Pairs.tag_said}
+use Rattle.text_lines.specs.Parts.{AllSay, Form, Part, ReadsPart, SaysExtent, SaysNumber}
+use Rattle.text_lines.specs.{Unread.UnreadWords, Unread.behind_next, Unread.behind_first, Unread.first_unread, WordChains.◌>>?◌ as ◌>>=◌, declared.actors.Frame.Frame, declared.actors.Speaker.Speaker}
+use Rattle.text_lines.specs.declared.{faults.Cause.Cause, faults.Wanted.Wanted, keywords.Keyword.Keyword, word_faults.NumberFault.NumberFault}
+use Rattle.text_lines.specs.Fields.{begins, extent_of_word, extents_ahead, handles_ahead, list_behind, list_ahead, may_tag_ahead, number_ahead, number_of_word, tag_ahead, tag_or}
+use Rattle.text_lines.proofs.FieldLaws.{Goes, IsNot, Took, begins_not, begins_with, begins_words, bound, goes_then, number_goes, number_says, ok_is, one_goes, one_sound, says_number, took_one}
 
 -- ---- extents
 pub extents_goes : (most : ℕ) (xs : List Extent) (u : UnreadWords) (front rest : List (List ℕ)) → u.words ≡ front ++ rest → ReadsPart front (Part.Extents most xs) → Stops rest → Goes (extents_ahead most u) xs rest

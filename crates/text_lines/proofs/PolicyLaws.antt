@@ -1,16 +1,11 @@
 -- Policies: what is read of them is what their words say.
 use Rattle.std.proofs.Common.{◌≡◌, ℕ, Bool, true, false, List, [], ◌∷◌, ◌++◌, Option, Some, None, Result, Ok, refl, sym, ap, ◌∙◌, subst, inl, inr, append_assoc}
 use Rattle.std.proofs.lemmas.Bool.{cases_Bool, cond-false, cond-true}
-use Rattle.text_lines.specs.Unread.{UnreadWords, behind_next, behind_first, first_unread}
-use Rattle.text_lines.specs.Fields.{begins, flag_ahead, number_ahead, number_of_word}
-use Rattle.text_lines.specs.Keywords.{keyword_text}
-use Rattle.text_lines.specs.Parts.{Form, NamesRelease, Part, ReadsPart}
+use Rattle.text_lines.{proofs.KeywordLaws.other_word, specs.Fields.begins, specs.Fields.flag_ahead, specs.Fields.number_ahead, specs.Fields.number_of_word, specs.Keywords.keyword_text}
+use Rattle.text_lines.specs.{Parts.Form, Parts.NamesRelease, Parts.Part, Parts.ReadsPart, Unread.UnreadWords, Unread.behind_next, Unread.behind_first, Unread.first_unread, declared.faults.Cause.Cause}
+use Rattle.text_lines.specs.declared.{faults.Wanted.Wanted, keywords.Keyword.Keyword}
 use Rattle.text_lines.specs.Policies.{word_where, add_name_ahead, add_policy_ahead, add_policy_said, named_flags_ahead, policy_or, release_flags, release_flags_ahead, release_name_ahead, release_policy_said}
-use Rattle.text_lines.specs.declared.faults.Cause.{Cause}
-use Rattle.text_lines.specs.declared.faults.Wanted.{Wanted}
-use Rattle.text_lines.specs.declared.keywords.Keyword.{Keyword}
 use Rattle.text_lines.proofs.FieldLaws.{Goes, IsNot, Took, begins_not, begins_with, begins_words, bound, flag_goes, flag_then, goes_then, number_goes, number_says, ok_is, one_goes, one_sound, took_one}
-use Rattle.text_lines.proofs.KeywordLaws.{other_word}
 
 policy_says : (wanted : Wanted) (said : Option ℕ) (policy : ℕ) → policy_or wanted said ≡ Ok policy → said ≡ Some policy
 policy_says wanted None policy is = cc

@@ -1,15 +1,10 @@
 -- What is printed of a number reads as that number.
 use Rattle.std.proofs.Common.{◌≡◌, ℕ, zero, suc, ◌+◌, ◌-◌, ◌*◌, ◌/◌, ◌%◌, ◌^◌, ◌<◌, ◌≤◌, Bool, true, false, cond, not, ◌==◌, ◌&&◌, nat_lt, nat_le, List, [], ◌∷◌, ◌++◌, length, take, drop, slice_index, Option, Some, None, unwrap_or, refl, sym, ap, ◌∙◌, inl, inr, arith, append_assoc, length-append}
+use Rattle.std.proofs.{Math.Nat.div-add-mod', Math.Nat.mod-lt, Math.Nat.div-lt_iff_lt-mul, Math.Nat.pow-suc, Math.Nat.pow-zero, lemmas.List.take_at, lemmas.List.get_or_at, lemmas.List.length_push}
+use Rattle.std.{proofs.lemmas.List.Folds.list_all-append, specs.Fmt.digits, specs.Fmt.digits_onto, specs.Fmt.digit_glyph, specs.List.list_all, specs.Option.is_none, specs.Option.option_map}
 use Rattle.std.specs.Prelude.{codes, decimal}
-use Rattle.std.specs.List.{list_all}
-use Rattle.std.specs.Option.{is_none, option_map}
-use Rattle.std.specs.Fmt.{digits, digits_onto, digit_glyph}
-use Rattle.std.proofs.Math.Nat.{div-add-mod', mod-lt, div-lt_iff_lt-mul, pow-suc, pow-zero}
 use Rattle.std.proofs.lemmas.Bool.{agree_below_at, and_parts, and_from, and_right, cases_Bool, cond-false, cond-true, not-true, cases_lt, eqb-false, eqb-true, ne_eqb, lt-ltb, leb-true, lt-leb}
-use Rattle.std.proofs.lemmas.List.{take_at, get_or_at, length_push}
-use Rattle.std.proofs.lemmas.List.Folds.{list_all-append}
-use Rattle.text_lines.specs.Characters.{below, digit_in, digit_value, unit_of, is_high}
-use Rattle.text_lines.specs.WordChains.{◌>>?◌ as ◌>>=◌}
+use Rattle.text_lines.specs.{Characters.below, Characters.digit_in, Characters.digit_value, Characters.unit_of, Characters.is_high, WordChains.◌>>?◌ as ◌>>=◌}
 use Rattle.text_lines.specs.Numbers.{digits_from, digits_said, without_last, last_character, has_prefix, prefixed_said, scaled_said, number_said, hexadecimal, is_scaled, size_text}
 
 -- ---- one digit

@@ -3,13 +3,10 @@ use Rattle.std.proofs.Common.{◌≡◌, ℕ, zero, suc, ◌+◌, ◌*◌, ◌/�
 use Rattle.std.specs.List.{list_all}
 use Rattle.std.proofs.lemmas.Bool.{agree_below_at, and_from, and_parts, cases_Bool, cond-false, cond-true, eq-eqb, eqb-true, ltb-true}
 use Rattle.hex.specs.Hex.{IsBytes, encode_lower, encode_with, lower_digits}
-use Rattle.dcd_base.specs.declared.capacity.Tag.{Tag}
-use Rattle.dcd_base.specs.Layouts.{is_byte}
+use Rattle.dcd_base.specs.{declared.capacity.Tag.Tag, Layouts.is_byte}
+use Rattle.text_lines.proofs.{PrintedNumbers.high_by, PrintedNumbers.some_is, PrintedWords.number_is_word}
 use Rattle.text_lines.specs.Characters.{IsNumberWord, IsTextWord, below, digit_in, digit_value, is_high}
-use Rattle.text_lines.specs.WordChains.{◌>>?◌ as ◌>>=◌}
-use Rattle.text_lines.specs.Pairs.{pair_said, pair_text, pairs_said, tag_of_bytes, tag_said, tag_text}
-use Rattle.text_lines.proofs.PrintedNumbers.{high_by, some_is}
-use Rattle.text_lines.proofs.PrintedWords.{number_is_word}
+use Rattle.text_lines.specs.{Pairs.pair_said, Pairs.pair_text, Pairs.pairs_said, Pairs.tag_of_bytes, Pairs.tag_said, Pairs.tag_text, WordChains.◌>>?◌ as ◌>>=◌}
 
 digit_reads : (d : ℕ) → d < 16 → digit_in 16 (slice_index lower_digits d) ≡ Some d
 digit_reads d low = some_is (digit_in 16 (slice_index lower_digits d)) d (omega (arith, low)) (eqb-true _ d (agree_below_at (λ n. unwrap_or (digit_in 16 (slice_index lower_digits n)) 99 == n) (λ n. true) 16 d refl low))

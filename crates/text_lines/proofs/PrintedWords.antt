@@ -1,22 +1,15 @@
 -- What is printed of extents and of block sizes reads as them.
 use Rattle.std.proofs.Common.{◌≡◌, ℕ, zero, suc, ◌+◌, ◌*◌, ◌/◌, ◌%◌, ◌^◌, ◌<◌, ◌≤◌, ◌==◌, ◌&&◌, nat_lt, Bool, true, false, not, List, [], ◌∷◌, ◌++◌, map, length, take, drop, Option, Some, None, refl, sym, ap, ◌∙◌, subst, inl, inr, arith, append-nil, append_assoc, length-append}
-use Rattle.std.specs.Prelude.{codes}
-use Rattle.std.specs.List.{flat_map, list_all}
-use Rattle.std.specs.Int.{is_power_of_two}
-use Rattle.std.proofs.lemmas.Bool.{and_from, and_parts, cases_Bool, cond-false, cond-true, eq-eqb, eqb-false, eqb-true, lt-ltb, ltb-true, ne_eqb}
-use Rattle.std.proofs.lemmas.List.{drop_at, length_push, map-append, take_at}
-use Rattle.std.proofs.lemmas.List.Folds.{list_all-append}
-use Rattle.std.proofs.lemmas.Nat.{mod-pow-add}
 use Rattle.std.proofs.Math.Nat.{mod-lt, mod-le, mod-eq_of_lt, div-eq_of_lt, one-le-pow, pow-le-pow_right}
+use Rattle.std.proofs.lemmas.{List.drop_at, List.length_push, List.map-append, List.take_at, List.Folds.list_all-append, Nat.mod-pow-add}
+use Rattle.std.specs.{Int.is_power_of_two, List.flat_map, List.list_all, Prelude.codes}
+use Rattle.std.proofs.lemmas.Bool.{and_from, and_parts, cases_Bool, cond-false, cond-true, eq-eqb, eqb-false, eqb-true, lt-ltb, ltb-true, ne_eqb}
 use lib.Count.{ones, ones_cat, ones_in}
 use Rattle.dcd_base.specs.declared.capacity.Extent.{Extent}
+use Rattle.text_lines.proofs.{PrintedNumbers.number_high, PrintedNumbers.size_reads, WordLaws.front_more, WordLaws.front_none}
 use Rattle.text_lines.specs.Characters.{IsNumberWord, IsTextWord, passed_from, is_high, is_other, is_printed}
-use Rattle.text_lines.specs.Extents.{after, before, extent_said, extent_text, untagged}
-use Rattle.text_lines.specs.WordChains.{◌>>?◌ as ◌>>=◌}
-use Rattle.text_lines.specs.Numbers.{number_said, size_text}
+use Rattle.text_lines.specs.{Extents.after, Extents.before, Extents.extent_said, Extents.extent_text, Extents.untagged, Numbers.number_said, Numbers.size_text, WordChains.◌>>?◌ as ◌>>=◌}
 use Rattle.text_lines.specs.Sizes.{comma_pieces, comma_then, commas_text, is_size, put_in_piece, size_said, size_where, sizes_below, sizes_from, sizes_said, sizes_text, sound_size, with_64_bits, with_size}
-use Rattle.text_lines.proofs.PrintedNumbers.{number_high, size_reads}
-use Rattle.text_lines.proofs.WordLaws.{front_more, front_none}
 
 -- ---- a sign between numbers
 high_other : (sign c : ℕ) → sign ≤ 47 → is_high c ≡ true → is_other sign c ≡ true

@@ -1,36 +1,20 @@
 -- What commands say behind their names: what is read is what the words say.
 use Rattle.std.proofs.Common.{◌≡◌, ℕ, Bool, false, ◌==◌, List, [], ◌∷◌, ◌++◌, Result, Ok, refl, sym, ap, ◌∙◌, subst, inl, inr}
 use lib.Pointwise.{pointwise}
-use Rattle.dcd_base.specs.declared.capacity.Extent.{Extent}
-use Rattle.dcd_base.specs.declared.capacity.Tag.{Tag}
+use Rattle.dcd_base.specs.declared.capacity.{Extent.Extent, Tag.Tag}
 use Rattle.fm_payloads.specs.declared.requests.FmRequest.{FmRequest}
 use Rattle.host_payloads.specs.declared.requests.HostRequest.{HostRequest}
-use Rattle.text_lines.specs.Unread.{UnreadWords}
-use Rattle.text_lines.specs.Actors.{host_ahead}
-use Rattle.text_lines.specs.Chains.{◌>>!◌ as ◌>>=◌}
-use Rattle.text_lines.specs.Fields.{extents_ahead, flag_ahead, handles_ahead, may_ahead, may_tag_ahead, named_ahead, tag_ahead}
-use Rattle.text_lines.specs.HostRequests.{clearing_ahead, host_request_ahead, listing_ahead, page_ahead}
-use Rattle.text_lines.specs.Keywords.{keyword_text}
-use Rattle.text_lines.specs.Layouts.{capacity_parts, clearing_parts, host_command_of, host_tail, listing_parts, manager_command_of, manager_tail, most_32, most_64, page_parts, setting_parts, spot_parts}
+use Rattle.text_lines.proofs.{KeywordLaws.IsInner, KeywordLaws.extents_not, KeywordLaws.is_key, KeywordLaws.stops_not, ListLaws.Stops}
+use Rattle.text_lines.{proofs.PolicyLaws.add_policy_goes, proofs.PolicyLaws.add_policy_sound, proofs.PolicyLaws.release_flags_goes, proofs.PolicyLaws.release_flags_sound, specs.Actors.host_ahead}
+use Rattle.text_lines.specs.{Chains.◌>>!◌ as ◌>>=◌, Fields.extents_ahead, Fields.flag_ahead, Fields.handles_ahead, Fields.may_ahead, Fields.may_tag_ahead, Fields.named_ahead, Fields.tag_ahead}
+use Rattle.text_lines.specs.{HostRequests.clearing_ahead, HostRequests.host_request_ahead, HostRequests.listing_ahead, HostRequests.page_ahead, Keywords.keyword_text}
 use Rattle.text_lines.specs.ManagerRequests.{add_ahead, capacity_ahead, host_page_ahead, manager_request_ahead, remove_ahead, setting_ahead, spot_ahead}
-use Rattle.text_lines.specs.Parts.{Form, Part, ReadsPart, Takes, key}
-use Rattle.text_lines.specs.Policies.{add_policy_ahead, release_flags_ahead}
-use Rattle.text_lines.specs.declared.commands.HostCommand.{HostCommand}
-use Rattle.text_lines.specs.declared.commands.ManagerCommand.{ManagerCommand}
-use Rattle.text_lines.specs.declared.faults.TextFault.{TextFault}
-use Rattle.text_lines.specs.declared.forms.Capacity.{Capacity}
-use Rattle.text_lines.specs.declared.forms.Clearing.{Clearing}
-use Rattle.text_lines.specs.declared.forms.HostPage.{HostPage}
-use Rattle.text_lines.specs.declared.forms.Listing.{Listing}
-use Rattle.text_lines.specs.declared.forms.Page.{Page}
-use Rattle.text_lines.specs.declared.forms.Setting.{Setting}
-use Rattle.text_lines.specs.declared.forms.Spot.{Spot}
-use Rattle.text_lines.specs.declared.keywords.Keyword.{Keyword}
+use Rattle.text_lines.specs.{Parts.Form, Parts.Part, Parts.ReadsPart, Parts.Takes, Parts.key, Policies.add_policy_ahead, Policies.release_flags_ahead, Unread.UnreadWords}
+use Rattle.text_lines.specs.declared.{commands.HostCommand.HostCommand, commands.ManagerCommand.ManagerCommand, faults.TextFault.TextFault, forms.Capacity.Capacity, forms.Clearing.Clearing}
+use Rattle.text_lines.specs.declared.{forms.HostPage.HostPage, forms.Listing.Listing, forms.Page.Page, forms.Setting.Setting, forms.Spot.Spot, keywords.Keyword.Keyword}
+use Rattle.text_lines.specs.Layouts.{capacity_parts, clearing_parts, host_command_of, host_tail, listing_parts, manager_command_of, manager_tail, most_32, most_64, page_parts, setting_parts, spot_parts}
 use Rattle.text_lines.proofs.FieldLaws.{Goes, IsNot, Took, bound, flag_goes, flag_sound, flag_then, goes_then, may_goes, may_sound, named_goes, named_sound, ok_is, took_then}
-use Rattle.text_lines.proofs.KeywordLaws.{IsInner, extents_not, is_key, stops_not}
-use Rattle.text_lines.proofs.ListLaws.{Stops}
 use Rattle.text_lines.proofs.PartLaws.{extents_goes, extents_sound, handles_goes, handles_sound, host_goes, host_sound, may_tag_goes, may_tag_sound, tag_goes, tag_sound}
-use Rattle.text_lines.proofs.PolicyLaws.{add_policy_goes, add_policy_sound, release_flags_goes, release_flags_sound}
 
 -- what was read, made into something else
 pub goes_made : {A B : Type 0} (read : Result (A × UnreadWords) TextFault) (x : A) (rest : List (List ℕ)) (make : A → B) → Goes read x rest → Goes (read >>= (λ y. Ok (make y.0, y.1))) (make x) rest

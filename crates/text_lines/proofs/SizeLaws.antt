@@ -1,13 +1,8 @@
 -- Block sizes and the commas between them.
 use Rattle.std.proofs.Common.{◌≡◌, ℕ, suc, ◌+◌, ◌/◌, ◌%◌, ◌^◌, ◌<◌, ◌==◌, Bool, true, false, not, List, [], ◌∷◌, ◌++◌, length, take, drop, Option, Some, None, refl, sym, ap, ◌∙◌, subst, inl, inr, arith, add-one, append-nil, append_assoc}
-use Rattle.std.specs.List.{flat_map}
-use Rattle.std.proofs.lemmas.Bool.{cases_Bool}
-use Rattle.std.proofs.lemmas.Grind.{flat_map-append}
-use Rattle.text_lines.specs.Characters.{passed_from, is_other}
-use Rattle.text_lines.specs.WordChains.{◌>>?◌ as ◌>>=◌}
-use Rattle.text_lines.specs.Numbers.{size_text}
+use Rattle.std.{specs.List.flat_map, proofs.lemmas.Bool.cases_Bool, proofs.lemmas.Grind.flat_map-append}
+use Rattle.text_lines.{specs.Characters.passed_from, specs.Characters.is_other, specs.WordChains.◌>>?◌ as ◌>>=◌, specs.Numbers.size_text, proofs.WordLaws.front_more, proofs.WordLaws.front_none}
 use Rattle.text_lines.specs.Sizes.{comma_pieces, comma_then, commas_text, put_in_piece, size_behind, size_said, size_where, sizes_below, sizes_from, with_size}
-use Rattle.text_lines.proofs.WordLaws.{front_more, front_none}
 
 abbrev pub none_of : List ℕ → Bool
 none_of [] = true

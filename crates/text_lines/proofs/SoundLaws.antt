@@ -1,37 +1,21 @@
 -- A line that words say is one that a script may have: its actor is there, and its message is short.
 use Rattle.std.proofs.Common.{◌≡◌, ℕ, ◌*◌, ◌≤◌, true, ◌==◌, ◌&&◌, nat_lt, List, [], ◌∷◌, length, Option, Some, None, Result, Ok, Err, refl, sym, ap, ◌∙◌, subst, inl, inr, arith, append-nil, length-append}
-use Rattle.std.specs.Prelude.{flat_map}
 use Rattle.std.proofs.lemmas.Bool.{and_from, cases_Bool, cond-false, cond-true, eq-eqb, eqb-true, le-leb}
-use Rattle.cci_codec.specs.Messages.{ReadsRequest, request_fields}
-use Rattle.cci_codec.specs.declared.messages.Request.{Request}
-use Rattle.dcd_base.specs.declared.capacity.Extent.{Extent}
-use Rattle.dcd_base.specs.declared.capacity.Tag.{Tag}
-use Rattle.dcd_base.specs.declared.ids.HostId.{HostId}
-use Rattle.dcd_base.specs.declared.steps.Actor.{Actor}
-use Rattle.dcd_base.specs.EventCommands.{handle_fields}
-use Rattle.dcd_base.specs.Extents.{extent_fields}
-use Rattle.dcd_base.specs.Layouts.{spelling}
-use Rattle.dcd_base.proofs.Fields.{length_of_fields}
-use Rattle.fm_payloads.specs.ManagerPayloads.{manager_fields, placed_fields}
-use Rattle.fm_payloads.specs.declared.requests.FmRequest.{FmRequest}
-use Rattle.host_payloads.specs.HostPayloads.{host_fields, listed_fields}
-use Rattle.host_payloads.specs.declared.requests.HostRequest.{HostRequest}
+use Rattle.std.specs.Prelude.{flat_map}
+use Rattle.cci_codec.specs.{Messages.ReadsRequest, Messages.request_fields, declared.messages.Request.Request}
+use Rattle.dcd_base.{proofs.Fields.length_of_fields, specs.EventCommands.handle_fields, specs.Extents.extent_fields, specs.Layouts.spelling, specs.declared.capacity.Extent.Extent}
+use Rattle.dcd_base.specs.declared.{capacity.Tag.Tag, ids.HostId.HostId, steps.Actor.Actor}
+use Rattle.fm_payloads.specs.{ManagerPayloads.manager_fields, ManagerPayloads.placed_fields, declared.requests.FmRequest.FmRequest}
+use Rattle.host_payloads.specs.{HostPayloads.host_fields, HostPayloads.listed_fields, declared.requests.HostRequest.HostRequest}
 use Rattle.journal_core.specs.declared.acts.Act.{Act}
-use Rattle.script_codec.specs.Scripts.{is_sound_line}
-use Rattle.script_codec.specs.Writing.{has_short_message}
-use Rattle.script_codec.specs.declared.script_line.Line.{Line}
-use Rattle.text_lines.specs.Extents.{after, before, extent_said, untagged}
-use Rattle.text_lines.specs.WordChains.{◌>>?◌ as ◌>>=◌}
-use Rattle.text_lines.specs.Numbers.{digits_said, number_said, under}
-use Rattle.text_lines.specs.Pairs.{pairs_said, tag_of_bytes, tag_said}
-use Rattle.text_lines.specs.declared.word_faults.NumberFault.{NumberFault}
-use Rattle.text_lines.specs.Actors.{actor_of_seat, actor_of_word, has_dot, host_said, is_manager_word, seat_of_parts, seat_said}
-use Rattle.text_lines.specs.Layouts.{NamesHostCommand, NamesManagerCommand, SaysLine, TellsBytes, host_tail, manager_tail, tag_part}
-use Rattle.text_lines.specs.Parts.{AllSay, Part, ReadsPart, SaysExtent, Takes}
-use Rattle.text_lines.specs.declared.actors.Frame.{Frame}
-use Rattle.text_lines.specs.declared.actors.Speaker.{Speaker}
-use Rattle.text_lines.specs.declared.faults.Wanted.{Wanted}
+use Rattle.script_codec.specs.{Scripts.is_sound_line, Writing.has_short_message, declared.script_line.Line.Line}
 use Rattle.text_lines.proofs.LineLaws.{split_parts}
+use Rattle.text_lines.specs.Actors.{actor_of_seat, actor_of_word, has_dot, host_said, is_manager_word, seat_of_parts, seat_said}
+use Rattle.text_lines.specs.Extents.{after, before, extent_said, untagged}
+use Rattle.text_lines.specs.Layouts.{NamesHostCommand, NamesManagerCommand, SaysLine, TellsBytes, host_tail, manager_tail, tag_part}
+use Rattle.text_lines.specs.{Numbers.digits_said, Numbers.number_said, Numbers.under, Pairs.pairs_said, Pairs.tag_of_bytes, Pairs.tag_said}
+use Rattle.text_lines.specs.{Parts.AllSay, Parts.Part, Parts.ReadsPart, Parts.SaysExtent, Parts.Takes, WordChains.◌>>?◌ as ◌>>=◌, declared.actors.Frame.Frame, declared.actors.Speaker.Speaker}
+use Rattle.text_lines.specs.declared.{faults.Wanted.Wanted, word_faults.NumberFault.NumberFault}
 
 -- ---- hosts and lanes
 number_is : {A : Type 0} (x y : A) → ◌≡◌ {A = Result A NumberFault} (Ok x) (Ok y) → x ≡ y

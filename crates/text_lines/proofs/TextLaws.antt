@@ -1,13 +1,10 @@
 -- A printed text has the lines and the words that were printed.
 use Rattle.std.proofs.Common.{◌≡◌, ℕ, ◌+◌, Bool, true, false, nat_lt, List, [], ◌∷◌, ◌++◌, map, refl, ap, ◌∙◌, arith, append_assoc}
+use Rattle.std.proofs.lemmas.{Bool.and_from, Bool.and_parts, Bool.lt-ltb, Bool.ltb-true, Bool.ne_eqb, List.Folds.list_all-append}
 use Rattle.std.specs.List.{AllByRecursion, flat_map, list_all}
-use Rattle.std.proofs.lemmas.Bool.{and_from, and_parts, lt-ltb, ltb-true, ne_eqb}
-use Rattle.std.proofs.lemmas.List.Folds.{list_all-append}
-use Rattle.text_lines.specs.Characters.{IsTextWord, is_plain, is_printed}
-use Rattle.text_lines.specs.Texts.{IsWordLine, words_of_lines}
+use Rattle.text_lines.{proofs.WordLaws.plain_step, specs.Characters.IsTextWord, specs.Characters.is_plain, specs.Characters.is_printed, specs.Texts.IsWordLine, specs.Texts.words_of_lines}
 use Rattle.text_lines.specs.Unread.{UnreadWords, is_done, line_at, unread_lines, with_line}
 use Rattle.text_lines.specs.Words.{without_return, goes_on, line_text, lines_in, put_front, put_in_line, spaced, words_in}
-use Rattle.text_lines.proofs.WordLaws.{plain_step}
 
 -- ---- words of a line
 printed_plain : (c : ℕ) → is_printed c ≡ true → is_plain c ≡ true

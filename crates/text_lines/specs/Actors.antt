@@ -2,17 +2,8 @@
 use Rattle.std.specs.Prelude.{◌≡◌, ℕ, ◌&&◌, ◌==◌, nat_lt, Bool, List, ◌++◌, length, drop, slice_index, Option, Some, None, Result, Ok, Err, if◌then◌else◌, codes, decimal}
 use lib.Pointwise.{pointwise}
 use Rattle.dcd_base.specs.declared.steps.Actor.{Actor}
-use Rattle.text_lines.specs.Characters.{passed_from, is_other}
-use Rattle.text_lines.specs.Numbers.{digits_said, under}
-use Rattle.text_lines.specs.Extents.{before, after}
-use Rattle.text_lines.specs.Unread.{UnreadWords, first_unread}
-use Rattle.text_lines.specs.declared.word_faults.NumberFault.{NumberFault}
-use Rattle.text_lines.specs.declared.actors.Frame.{Frame}
-use Rattle.text_lines.specs.declared.actors.Speaker.{Speaker}
-use Rattle.text_lines.specs.declared.faults.Wanted.{Wanted}
-use Rattle.text_lines.specs.declared.faults.Cause.{Cause}
-use Rattle.text_lines.specs.declared.faults.TextFault.{TextFault}
-use Rattle.text_lines.specs.Fields.{one_word}
+use Rattle.text_lines.specs.{Characters.passed_from, Characters.is_other, Extents.before, Extents.after, Fields.one_word, Numbers.digits_said, Numbers.under, Unread.UnreadWords, Unread.first_unread}
+use Rattle.text_lines.specs.declared.{actors.Frame.Frame, actors.Speaker.Speaker, faults.Cause.Cause, faults.TextFault.TextFault, faults.Wanted.Wanted, word_faults.NumberFault.NumberFault}
 
 -- h and the decimal number of a host
 unfoldable pub host_said : List ℕ → Option ℕ

@@ -1,8 +1,7 @@
 -- The names of the commands, as they are written and read.
 use Rattle.std.specs.Prelude.{ℕ, ◌==◌, List, Option, Some, None, if◌then◌else◌, codes}
 use lib.Pointwise.{pointwise}
-use Rattle.text_lines.specs.declared.commands.HostCommand.{HostCommand}
-use Rattle.text_lines.specs.declared.commands.ManagerCommand.{ManagerCommand}
+use Rattle.text_lines.specs.declared.commands.{HostCommand.HostCommand, ManagerCommand.ManagerCommand}
 
 abbrev pub host_command_text : HostCommand → List ℕ
 host_command_text HostCommand.GetEventRecords = codes "get-event-records"

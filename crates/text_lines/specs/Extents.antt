@@ -1,11 +1,7 @@
 -- Which extent a word says, and how an extent is printed.
 use Rattle.std.specs.Prelude.{ℕ, ◌+◌, ◌-◌, ◌^◌, Bool, ◌&&◌, nat_le, List, ◌++◌, take, drop, Option, Some, None, Result, Ok, Err, if◌then◌else◌, codes}
-use Rattle.dcd_base.specs.declared.capacity.Extent.{Extent}
-use Rattle.dcd_base.specs.Words.{zero_tag}
-use Rattle.text_lines.specs.Characters.{passed_from, is_other}
-use Rattle.text_lines.specs.WordChains.{◌>>?◌ as ◌>>=◌}
-use Rattle.text_lines.specs.Numbers.{number_said, size_text}
-use Rattle.text_lines.specs.declared.word_faults.NumberFault.{NumberFault}
+use Rattle.dcd_base.specs.{declared.capacity.Extent.Extent, Words.zero_tag}
+use Rattle.text_lines.specs.{Characters.passed_from, Characters.is_other, WordChains.◌>>?◌ as ◌>>=◌, Numbers.number_said, Numbers.size_text, declared.word_faults.NumberFault.NumberFault}
 
 -- what stands before the first such character, and what stands behind it
 abbrev pub before : ℕ → List ℕ → List ℕ

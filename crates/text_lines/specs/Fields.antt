@@ -1,20 +1,10 @@
 -- How a line is read word by word: what was read and what is still to come, or the fault that ends the reading.
 use Rattle.std.specs.Prelude.{◌≡◌, ◌≢◌, ℕ, ◌+◌, ◌-◌, ◌^◌, Bool, true, false, ◌==◌, List, [], ◌∷◌, ◌++◌, Option, Some, None, Result, Ok, Err, if◌then◌else◌}
 use lib.Pointwise.{pointwise}
-use Rattle.dcd_base.specs.declared.capacity.Extent.{Extent}
-use Rattle.dcd_base.specs.declared.capacity.Tag.{Tag}
-use Rattle.dcd_base.specs.Words.{zero_tag}
-use Rattle.text_lines.specs.declared.word_faults.NumberFault.{NumberFault}
-use Rattle.text_lines.specs.Unread.{UnreadWords, is_done, first_unread, behind_next}
-use Rattle.text_lines.specs.Numbers.{number_said, limited}
-use Rattle.text_lines.specs.Extents.{extent_said, limited_extent}
-use Rattle.text_lines.specs.Pairs.{tag_said}
-use Rattle.text_lines.specs.declared.keywords.Keyword.{Keyword}
-use Rattle.text_lines.specs.declared.faults.Wanted.{Wanted}
-use Rattle.text_lines.specs.declared.faults.Cause.{Cause}
-use Rattle.text_lines.specs.declared.faults.TextFault.{TextFault}
-use Rattle.text_lines.specs.Keywords.{keyword_text}
-use Rattle.text_lines.specs.Chains.{◌>>!◌ as ◌>>=◌}
+use Rattle.dcd_base.specs.{declared.capacity.Extent.Extent, declared.capacity.Tag.Tag, Words.zero_tag}
+use Rattle.text_lines.specs.{Chains.◌>>!◌ as ◌>>=◌, Extents.extent_said, Extents.limited_extent, Keywords.keyword_text, Numbers.number_said, Numbers.limited, Pairs.tag_said}
+use Rattle.text_lines.specs.{Unread.UnreadWords, Unread.is_done, Unread.first_unread, Unread.behind_next, declared.faults.Cause.Cause, declared.faults.TextFault.TextFault}
+use Rattle.text_lines.specs.declared.{faults.Wanted.Wanted, keywords.Keyword.Keyword, word_faults.NumberFault.NumberFault}
 
 -- The call answers what the definition reads, and leaves what is still to come. Memory may be wanting at any time.
 abbrev pub GivesWords : {A B : Type 0} → (A → B) → Result A TextFault → UnreadWords → Result (B × UnreadWords) TextFault → Type 0

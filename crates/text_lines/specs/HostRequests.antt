@@ -1,15 +1,8 @@
 -- How the commands of a host are read behind their names.
 use Rattle.std.specs.Prelude.{ℕ, ◌-◌, ◌^◌, Result, Ok}
 use Rattle.host_payloads.specs.declared.requests.HostRequest.{HostRequest}
-use Rattle.text_lines.specs.Unread.{UnreadWords}
-use Rattle.text_lines.specs.declared.commands.HostCommand.{HostCommand}
-use Rattle.text_lines.specs.declared.faults.TextFault.{TextFault}
-use Rattle.text_lines.specs.declared.forms.Clearing.{Clearing}
-use Rattle.text_lines.specs.declared.forms.Listing.{Listing}
-use Rattle.text_lines.specs.declared.forms.Page.{Page}
-use Rattle.text_lines.specs.declared.keywords.Keyword.{Keyword}
-use Rattle.text_lines.specs.Chains.{◌>>!◌ as ◌>>=◌}
-use Rattle.text_lines.specs.Fields.{extents_ahead, flag_ahead, handles_ahead, may_ahead, named_ahead}
+use Rattle.text_lines.specs.{Chains.◌>>!◌ as ◌>>=◌, Fields.extents_ahead, Fields.flag_ahead, Fields.handles_ahead, Fields.may_ahead, Fields.named_ahead, Unread.UnreadWords}
+use Rattle.text_lines.specs.declared.{commands.HostCommand.HostCommand, faults.TextFault.TextFault, forms.Clearing.Clearing, forms.Listing.Listing, forms.Page.Page, keywords.Keyword.Keyword}
 
 -- a log, whether all records are meant, and handles
 unfoldable pub clearing_ahead : UnreadWords → Result (Clearing × UnreadWords) TextFault

@@ -2,27 +2,15 @@
 use Rattle.std.specs.Prelude.{◌≡◌, ◌⊎◌, ℕ, ◌-◌, ◌^◌, ◌==◌, nat_le, Bool, ◌&&◌, List, [], ◌∷◌, ◌++◌, length, Option, Some, None, Result, Ok, Err, if◌then◌else◌, codes}
 use Rattle.std.specs.List.{list_all}
 use lib.Pointwise.{pointwise}
-use Rattle.cci_codec.specs.Messages.{ReadsRequest, request_bytes}
-use Rattle.cci_codec.specs.declared.messages.Request.{Request}
-use Rattle.dcd_base.specs.declared.capacity.Extent.{Extent}
-use Rattle.dcd_base.specs.declared.capacity.Tag.{Tag}
-use Rattle.dcd_base.specs.declared.ids.HostId.{HostId}
+use Rattle.cci_codec.specs.{Messages.ReadsRequest, Messages.request_bytes, declared.messages.Request.Request}
+use Rattle.dcd_base.specs.{Layouts.spelling, declared.capacity.Extent.Extent, declared.capacity.Tag.Tag, declared.faults.PayloadFault.PayloadFault, declared.ids.HostId.HostId}
 use Rattle.dcd_base.specs.declared.steps.Actor.{Actor}
-use Rattle.dcd_base.specs.Layouts.{spelling}
-use Rattle.dcd_base.specs.declared.faults.PayloadFault.{PayloadFault}
-use Rattle.fm_payloads.specs.ManagerPayloads.{manager_fields, manager_request}
-use Rattle.fm_payloads.specs.declared.requests.FmRequest.{FmRequest}
-use Rattle.host_payloads.specs.HostPayloads.{host_fields, host_request, is_untagged}
-use Rattle.host_payloads.specs.declared.requests.HostRequest.{HostRequest}
+use Rattle.fm_payloads.specs.{ManagerPayloads.manager_fields, ManagerPayloads.manager_request, declared.requests.FmRequest.FmRequest}
+use Rattle.host_payloads.specs.{HostPayloads.host_fields, HostPayloads.host_request, HostPayloads.is_untagged, declared.requests.HostRequest.HostRequest}
 use Rattle.journal_core.specs.declared.acts.Act.{Act}
 use Rattle.script_codec.specs.declared.script_line.Line.{Line}
-use Rattle.text_lines.specs.Commands.{host_command_text, manager_command_text}
-use Rattle.text_lines.specs.Lines.{host_message, manager_message}
-use Rattle.text_lines.specs.Parts.{Form, Part, ReadsParts, key}
-use Rattle.text_lines.specs.declared.actors.Frame.{Frame}
-use Rattle.text_lines.specs.declared.commands.HostCommand.{HostCommand}
-use Rattle.text_lines.specs.declared.commands.ManagerCommand.{ManagerCommand}
-use Rattle.text_lines.specs.declared.keywords.Keyword.{Keyword}
+use Rattle.text_lines.specs.{Commands.host_command_text, Commands.manager_command_text, Lines.host_message, Lines.manager_message, Parts.Form, Parts.Part, Parts.ReadsParts, Parts.key}
+use Rattle.text_lines.specs.declared.{actors.Frame.Frame, commands.HostCommand.HostCommand, commands.ManagerCommand.ManagerCommand, keywords.Keyword.Keyword}
 
 -- ---- the named lines of commands
 

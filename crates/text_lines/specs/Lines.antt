@@ -1,35 +1,17 @@
 -- How a line of a script is read.
 use Rattle.std.specs.Prelude.{ℕ, ◌+◌, ◌-◌, ◌^◌, ◌==◌, nat_lt, List, [], ◌∷◌, ◌++◌, length, Option, Some, None, Result, Ok, Err, if◌then◌else◌, codes}
 use lib.Pointwise.{pointwise}
-use Rattle.cci_codec.specs.Messages.{message_fault, request_in}
-use Rattle.cci_codec.specs.declared.faults.MessageFault.{MessageFault}
-use Rattle.cci_codec.specs.declared.messages.Request.{Request}
-use Rattle.dcd_base.specs.declared.steps.Actor.{Actor}
-use Rattle.dcd_base.specs.Layouts.{spelling}
-use Rattle.fm_payloads.specs.ManagerPayloads.{manager_fields, manager_opcode}
-use Rattle.fm_payloads.specs.declared.requests.FmRequest.{FmRequest}
-use Rattle.host_payloads.specs.HostPayloads.{host_fields, host_opcode}
-use Rattle.host_payloads.specs.declared.requests.HostRequest.{HostRequest}
+use Rattle.cci_codec.specs.{Messages.message_fault, Messages.request_in, declared.faults.MessageFault.MessageFault, declared.messages.Request.Request}
+use Rattle.dcd_base.specs.{declared.steps.Actor.Actor, Layouts.spelling}
+use Rattle.fm_payloads.specs.{ManagerPayloads.manager_fields, ManagerPayloads.manager_opcode, declared.requests.FmRequest.FmRequest}
+use Rattle.host_payloads.specs.{HostPayloads.host_fields, HostPayloads.host_opcode, declared.requests.HostRequest.HostRequest}
 use Rattle.journal_core.specs.declared.acts.Act.{Act}
 use Rattle.script_codec.specs.declared.script_line.Line.{Line}
-use Rattle.text_lines.specs.Pairs.{pairs_said}
-use Rattle.text_lines.specs.Unread.{UnreadWords, is_done, first_unread}
-use Rattle.text_lines.specs.Actors.{actor_ahead, actor_of_word}
-use Rattle.text_lines.specs.Commands.{host_command_said, manager_command_said}
-use Rattle.text_lines.specs.Chains.{◌>>!◌ as ◌>>=◌}
-use Rattle.text_lines.specs.Fields.{end_ahead, may_ahead, number_ahead, one_word, refused}
-use Rattle.text_lines.specs.HostRequests.{host_request_ahead}
-use Rattle.text_lines.specs.ManagerRequests.{manager_request_ahead}
-use Rattle.text_lines.specs.declared.actors.Frame.{Frame}
-use Rattle.text_lines.specs.declared.actors.Speaker.{Speaker}
-use Rattle.text_lines.specs.declared.commands.HostCommand.{HostCommand}
-use Rattle.text_lines.specs.declared.commands.ManagerCommand.{ManagerCommand}
-use Rattle.text_lines.specs.declared.faults.Cause.{Cause}
-use Rattle.text_lines.specs.declared.faults.TextFault.{TextFault}
-use Rattle.text_lines.specs.declared.faults.Wanted.{Wanted}
-use Rattle.text_lines.specs.declared.keywords.Keyword.{Keyword}
-use Rattle.text_lines.specs.declared.openings.Opening.{Opening}
-use Rattle.text_lines.specs.declared.openings.HostWord.{HostWord}
+use Rattle.text_lines.specs.{Actors.actor_ahead, Actors.actor_of_word, Chains.◌>>!◌ as ◌>>=◌, Commands.host_command_said, Commands.manager_command_said}
+use Rattle.text_lines.specs.{Fields.end_ahead, Fields.may_ahead, Fields.number_ahead, Fields.one_word, Fields.refused, HostRequests.host_request_ahead, ManagerRequests.manager_request_ahead}
+use Rattle.text_lines.specs.{Pairs.pairs_said, Unread.UnreadWords, Unread.is_done, Unread.first_unread, declared.actors.Frame.Frame, declared.actors.Speaker.Speaker}
+use Rattle.text_lines.specs.declared.{commands.HostCommand.HostCommand, commands.ManagerCommand.ManagerCommand, faults.Cause.Cause, faults.TextFault.TextFault, faults.Wanted.Wanted}
+use Rattle.text_lines.specs.declared.{keywords.Keyword.Keyword, openings.HostWord.HostWord, openings.Opening.Opening}
 
 -- ---- the first word of a line
 

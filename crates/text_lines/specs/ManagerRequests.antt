@@ -1,19 +1,10 @@
 -- How the commands of the manager are read behind their names.
 use Rattle.std.specs.Prelude.{ℕ, ◌-◌, ◌^◌, Result, Ok}
 use Rattle.fm_payloads.specs.declared.requests.FmRequest.{FmRequest}
-use Rattle.text_lines.specs.Unread.{UnreadWords}
-use Rattle.text_lines.specs.Actors.{host_ahead}
-use Rattle.text_lines.specs.declared.commands.ManagerCommand.{ManagerCommand}
-use Rattle.text_lines.specs.declared.faults.TextFault.{TextFault}
-use Rattle.text_lines.specs.declared.forms.Capacity.{Capacity}
-use Rattle.text_lines.specs.declared.forms.HostPage.{HostPage}
-use Rattle.text_lines.specs.declared.forms.Setting.{Setting}
-use Rattle.text_lines.specs.declared.forms.Spot.{Spot}
+use Rattle.text_lines.specs.{Actors.host_ahead, Chains.◌>>!◌ as ◌>>=◌, Fields.extents_ahead, Fields.flag_ahead, Fields.may_ahead, Fields.may_tag_ahead, Fields.named_ahead, Fields.tag_ahead}
+use Rattle.text_lines.specs.{HostRequests.clearing_ahead, HostRequests.page_ahead, Policies.add_policy_ahead, Policies.release_flags_ahead, Unread.UnreadWords}
+use Rattle.text_lines.specs.declared.{commands.ManagerCommand.ManagerCommand, faults.TextFault.TextFault, forms.Capacity.Capacity, forms.HostPage.HostPage, forms.Setting.Setting, forms.Spot.Spot}
 use Rattle.text_lines.specs.declared.keywords.Keyword.{Keyword}
-use Rattle.text_lines.specs.Chains.{◌>>!◌ as ◌>>=◌}
-use Rattle.text_lines.specs.Fields.{extents_ahead, flag_ahead, may_ahead, may_tag_ahead, named_ahead, tag_ahead}
-use Rattle.text_lines.specs.HostRequests.{clearing_ahead, page_ahead}
-use Rattle.text_lines.specs.Policies.{add_policy_ahead, release_flags_ahead}
 
 -- a host, the first index and how many are wanted
 unfoldable pub host_page_ahead : ℕ → UnreadWords → Result (HostPage × UnreadWords) TextFault

@@ -1,10 +1,7 @@
 -- Which number a word says, and how a number is printed.
 use Rattle.std.specs.Prelude.{ℕ, ◌+◌, ◌-◌, ◌*◌, ◌/◌, ◌%◌, ◌^◌, Bool, false, ◌&&◌, ◌==◌, nat_le, nat_lt, min, List, [], ◌∷◌, ◌++◌, length, take, drop, slice_index, Option, Some, None, Result, Ok, Err, if◌then◌else◌, codes, decimal}
-use Rattle.std.specs.Option.{option_map}
-use Rattle.std.specs.Fmt.{digits}
-use Rattle.text_lines.specs.Characters.{digit_in, unit_of}
-use Rattle.text_lines.specs.declared.word_faults.NumberFault.{NumberFault}
-use Rattle.text_lines.specs.WordChains.{◌>>?◌ as ◌>>=◌}
+use Rattle.std.specs.{Option.option_map, Fmt.digits}
+use Rattle.text_lines.specs.{Characters.digit_in, Characters.unit_of, declared.word_faults.NumberFault.NumberFault, WordChains.◌>>?◌ as ◌>>=◌}
 
 -- the value of digits behind those that make this number; None where one is no digit of the base
 unfoldable pub digits_from : ℕ → ℕ → List ℕ → Option ℕ

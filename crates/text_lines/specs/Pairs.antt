@@ -2,8 +2,7 @@
 use Rattle.std.specs.Prelude.{◌≡◌, ℕ, ◌+◌, ◌*◌, ◌==◌, Bool, true, false, List, [], ◌∷◌, ◌++◌, length, Option, Some, None, if◌then◌else◌}
 use Rattle.hex.specs.Hex.{encode_lower}
 use Rattle.dcd_base.specs.declared.capacity.Tag.{Tag}
-use Rattle.text_lines.specs.Characters.{digit_in}
-use Rattle.text_lines.specs.WordChains.{◌>>?◌ as ◌>>=◌}
+use Rattle.text_lines.specs.{Characters.digit_in, WordChains.◌>>?◌ as ◌>>=◌}
 
 -- the byte that two digits say
 abbrev pub pair_said : ℕ → ℕ → Option ℕ

@@ -1,19 +1,11 @@
 -- A line as the parts of the grammar: which words say a part, and how a part is printed.
 use Rattle.std.specs.Prelude.{◌≡◌, ◌⊎◌, ℕ, ◌<◌, ◌≤◌, Bool, true, false, ◌==◌, List, [], ◌∷◌, ◌++◌, length, map, Some, if◌then◌else◌, decimal}
 use Rattle.std.specs.List.{flat_map}
-use Rattle.dcd_base.specs.Words.{is_zero_tag, zero_tag}
-use Rattle.dcd_base.specs.declared.capacity.Extent.{Extent}
-use Rattle.dcd_base.specs.declared.capacity.Tag.{Tag}
-use Rattle.dcd_base.specs.declared.steps.Actor.{Actor}
-use Rattle.text_lines.specs.Extents.{extent_said, extent_text, fits_64}
-use Rattle.text_lines.specs.Numbers.{number_said, size_text}
-use Rattle.text_lines.specs.Pairs.{pair_text, pairs_said, tag_said, tag_text}
-use Rattle.text_lines.specs.Sizes.{sizes_said, sizes_text}
-use Rattle.text_lines.specs.Actors.{SaysActor, actor_text, host_said, host_text}
-use Rattle.text_lines.specs.Keywords.{keyword_text}
+use Rattle.dcd_base.specs.{Words.is_zero_tag, Words.zero_tag, declared.capacity.Extent.Extent, declared.capacity.Tag.Tag, declared.steps.Actor.Actor}
+use Rattle.text_lines.specs.{Actors.SaysActor, Actors.actor_text, Actors.host_said, Actors.host_text, Extents.extent_said, Extents.extent_text, Extents.fits_64, Keywords.keyword_text}
+use Rattle.text_lines.specs.{Numbers.number_said, Numbers.size_text, Pairs.pair_text, Pairs.pairs_said, Pairs.tag_said, Pairs.tag_text}
 use Rattle.text_lines.specs.Policies.{add_policy_said, add_policy_text, release_flags, release_flags_text, release_policy_said, word_where}
-use Rattle.text_lines.specs.declared.actors.Frame.{Frame}
-use Rattle.text_lines.specs.declared.keywords.Keyword.{Keyword}
+use Rattle.text_lines.specs.{Sizes.sizes_said, Sizes.sizes_text, declared.actors.Frame.Frame, declared.keywords.Keyword.Keyword}
 
 -- how a number is printed
 pub data Form : Type 0 where

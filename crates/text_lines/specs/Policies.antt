@@ -2,14 +2,9 @@
 use Rattle.std.specs.Prelude.{ℕ, ◌+◌, ◌*◌, ◌/◌, ◌%◌, ◌&&◌, ◌==◌, nat_lt, Bool, List, [], ◌∷◌, ◌++◌, Option, Some, None, Result, Ok, Err, if◌then◌else◌, codes, decimal}
 use lib.Pointwise.{pointwise}
 use Rattle.dcd_base.specs.Words.{flag_of}
-use Rattle.text_lines.specs.Unread.{UnreadWords, first_unread, behind_next}
-use Rattle.text_lines.specs.Numbers.{hexadecimal}
-use Rattle.text_lines.specs.declared.faults.Wanted.{Wanted}
-use Rattle.text_lines.specs.declared.faults.Cause.{Cause}
-use Rattle.text_lines.specs.declared.faults.TextFault.{TextFault}
+use Rattle.text_lines.specs.{Chains.◌>>!◌ as ◌>>=◌, Fields.begins, Fields.flag_ahead, Fields.number_ahead, Fields.one_word, Numbers.hexadecimal}
+use Rattle.text_lines.specs.{Unread.UnreadWords, Unread.first_unread, Unread.behind_next, declared.faults.Cause.Cause, declared.faults.TextFault.TextFault, declared.faults.Wanted.Wanted}
 use Rattle.text_lines.specs.declared.keywords.Keyword.{Keyword}
-use Rattle.text_lines.specs.Chains.{◌>>!◌ as ◌>>=◌}
-use Rattle.text_lines.specs.Fields.{begins, flag_ahead, number_ahead, one_word}
 
 -- the policy of an add that a word names
 unfoldable pub add_policy_said : List ℕ → Option ℕ

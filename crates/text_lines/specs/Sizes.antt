@@ -1,9 +1,7 @@
 -- The block sizes that a word says, as a mask.
 use Rattle.std.specs.Prelude.{ℕ, zero, suc, ◌+◌, ◌/◌, ◌%◌, ◌^◌, Bool, ◌&&◌, ◌==◌, nat_lt, List, [], ◌∷◌, ◌++◌, Option, Some, None, if◌then◌else◌, codes}
-use Rattle.std.specs.Int.{is_power_of_two}
-use Rattle.std.specs.List.{flat_map}
-use Rattle.text_lines.specs.WordChains.{◌>>?◌ as ◌>>=◌}
-use Rattle.text_lines.specs.Numbers.{number_said, size_text}
+use Rattle.std.specs.{Int.is_power_of_two, List.flat_map}
+use Rattle.text_lines.specs.{WordChains.◌>>?◌ as ◌>>=◌, Numbers.number_said, Numbers.size_text}
 
 -- a character in front of the pieces behind it
 abbrev pub put_in_piece : ℕ → List (List ℕ) → List (List ℕ)

@@ -1,8 +1,6 @@
 -- The words of each line of a text.
-use Rattle.std.specs.Prelude.{ℕ, ◌<◌, List, length, map}
-use Rattle.std.specs.List.{AllByRecursion}
-use Rattle.text_lines.specs.Characters.{IsTextWord}
-use Rattle.text_lines.specs.Unread.{UnreadWords, all_of}
+use Rattle.std.specs.{Prelude.ℕ, Prelude.◌<◌, Prelude.List, Prelude.length, Prelude.map, List.AllByRecursion}
+use Rattle.text_lines.specs.{Characters.IsTextWord, Unread.UnreadWords, Unread.all_of}
 
 -- the words of each line that has any
 abbrev pub words_of_lines : List ℕ → List (List (List ℕ))

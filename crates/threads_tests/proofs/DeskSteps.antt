@@ -1,23 +1,14 @@
 -- Desks before and after a phase.
 use Rattle.std.proofs.Common.{◌≡◌, ℕ, suc, ◌+◌, ◌*◌, ◌/◌, ◌<◌, ◌≤◌, ◌^◌, List, [], ◌∷◌, ◌++◌, length, map, refl, ap, sym, subst, ◌∙◌, arith, IsTrue, OnOk}
 use Rattle.std.proofs.Math.Nat.{div-lt_iff_lt-mul, mul_comm}
-use Rattle.std.proofs.lemmas.Bool.{and_from, and_parts, eq-eqb, le-ltb, lt-ltb, ltb-true, ne_eqb}
-use Rattle.std.proofs.lemmas.List.{length-append, length-map}
-use Rattle.std.proofs.lemmas.List.Folds.{list_all-append}
-use Rattle.std.proofs.lemmas.Nat.{div-mul-add, mul-add-lt}
-use Rattle.std.specs.Prelude.{◌==◌, nat_lt, Bool, true, if◌then◌else◌}
-use Rattle.std.specs.List.{list_all}
-use Rattle.std.specs.declared.result.Result.{Result}
+use Rattle.std.proofs.lemmas.{Bool.and_from, Bool.and_parts, Bool.eq-eqb, Bool.le-ltb, Bool.lt-ltb, Bool.ltb-true, Bool.ne_eqb, List.length-append, List.length-map, List.Folds.list_all-append}
+use Rattle.std.{proofs.lemmas.Nat.div-mul-add, proofs.lemmas.Nat.mul-add-lt, specs.List.list_all}
+use Rattle.std.specs.{Prelude.◌==◌, Prelude.nat_lt, Prelude.Bool, Prelude.true, Prelude.if◌then◌else◌, declared.result.Result.Result}
 use Rattle.std.specs.declared.result.Result.TheVariants.{Ok, Err}
 use Rattle.dcd_base.specs.declared.steps.Actor.{Actor}
-use Rattle.journal_core.specs.Entries.{fits}
-use Rattle.script_runner.proofs.LineActors.{host_fits}
-use Rattle.script_runner.proofs.NewPassesReady.{tasks_few}
-use Rattle.journal_core.specs.declared.acts.Act.{Act}
-use Rattle.script_runner.specs.script_codec.specs.declared.script_line.Line.{Line}
-use Rattle.script_runner.specs.script_codec.specs.Covering.{pass_of}
-use Rattle.script_runner.specs.script_codec.specs.Scripts.{is_sound_line}
-use Rattle.script_runner.specs.workers.specs.Phases.{task_of, phase}
+use Rattle.journal_core.specs.{Entries.fits, declared.acts.Act.Act}
+use Rattle.script_runner.{proofs.LineActors.host_fits, proofs.NewPassesReady.tasks_few, specs.script_codec.specs.Covering.pass_of, specs.script_codec.specs.Scripts.is_sound_line}
+use Rattle.script_runner.specs.{script_codec.specs.declared.script_line.Line.Line, workers.specs.Phases.task_of, workers.specs.Phases.phase}
 use Rattle.script_runner.specs.workers.specs.Serving.{EachReady, EachServed, IsReady}
 use Rattle.threads_tests.specs.Desks.{AreDesks, DeskState, IsDesk, actor_at, desk_reads}
 

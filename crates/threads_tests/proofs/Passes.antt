@@ -5,19 +5,11 @@ use mathlib.Core.Logic.{dite}
 use native.Mathlib.Decide.{ℕ_discrete}
 use mathlib.Core.Option.{some, some-injective, some-ne-none}
 use lib.ListN.{get_elem?}
-use Rattle.script_runner.specs.device_plain.specs.control_core.specs.Steps.{MayStep}
-use Rattle.dcd_base.specs.declared.ids.HostId.{HostId}
-use Rattle.dcd_base.specs.declared.steps.Actor.{Actor}
-use Rattle.journal_core.specs.declared.acts.Act.{Act}
-use Rattle.journal_core.specs.Entries.{fits, is_control}
-use Rattle.journal_core.specs.Merging.{call_of}
-use Rattle.journal_core.proofs.Splits.{at_some}
-use Rattle.script_runner.specs.shared_device.specs.ruled_cells.specs.Calls.{seats_of}
-use Rattle.script_runner.specs.shared_device.specs.ruled_cells.specs.Seats.{seat_view}
-use Rattle.script_runner.specs.shared_device.specs.Closing.{AreAllPasses}
-use Rattle.script_runner.specs.shared_device.specs.declared.pass.Pass.{Pass}
-use Rattle.script_runner.specs.shared_device.specs.declared.shared.Shared.{Shared}
-use Rattle.script_runner.specs.shared_device.specs.Passing.{IsNewPass, IsOneOf, IsSamePass, pass_calls, pass_number}
+use Rattle.script_runner.specs.{device_plain.specs.control_core.specs.Steps.MayStep, shared_device.specs.Closing.AreAllPasses}
+use Rattle.script_runner.specs.shared_device.specs.{Passing.IsNewPass, Passing.IsOneOf, Passing.IsSamePass, Passing.pass_calls, Passing.pass_number, declared.pass.Pass.Pass}
+use Rattle.script_runner.specs.shared_device.specs.{declared.shared.Shared.Shared, ruled_cells.specs.Calls.seats_of, ruled_cells.specs.Seats.seat_view}
+use Rattle.dcd_base.specs.declared.{ids.HostId.HostId, steps.Actor.Actor}
+use Rattle.journal_core.{specs.declared.acts.Act.Act, specs.Entries.fits, specs.Entries.is_control, specs.Merging.call_of, proofs.Splits.at_some}
 use Rattle.threads_tests.specs.Hosting.{AreByNumber, IsHostOf, IsPassAt}
 
 -- a pass has as many calls as entries that it saw entered

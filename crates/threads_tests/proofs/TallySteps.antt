@@ -3,27 +3,14 @@ use Rattle.std.proofs.Common.{◌≡◌, ◌⊎◌, ℕ, zero, suc, ◌+◌, ◌
 use Rattle.std.proofs.lemmas.List.{length_push}
 use mathlib.Core.Option.{some, some-injective, some-ne-none}
 use lib.ListN.{get_elem?}
-use Rattle.dcd_base.specs.declared.steps.Stamp.{Stamp}
-use Rattle.dcd_base.specs.declared.steps.Actor.{Actor}
-use Rattle.journal_core.specs.declared.entries.Entry.{Entry}
-use Rattle.script_runner.specs.shared_device.specs.ruled_cells.specs.declared.about.SeatView.{SeatView}
-use Rattle.script_runner.specs.shared_device.specs.ruled_cells.specs.declared.cell_value.CellValue.{CellValue}
-use Rattle.script_runner.specs.shared_device.specs.ruled_cells.specs.Turning.{HasTurn}
-use Rattle.script_runner.specs.shared_device.specs.ruled_cells.specs.Stamps.{stamps_after, pending, stamp}
-use Rattle.script_runner.specs.shared_device.specs.ruled_cells.specs.Reads.{ChiefReads}
-use Rattle.script_runner.specs.shared_device.specs.ruled_cells.specs.Ruling.{Names, names, access_cell}
-use Rattle.script_runner.specs.shared_device.specs.ruled_cells.specs.Telling.{MayGive, GaveCell, entered_view, changed_view}
+use Rattle.dcd_base.specs.declared.steps.{Stamp.Stamp, Actor.Actor}
+use Rattle.journal_core.specs.{declared.entries.Entry.Entry, Entries.is_control}
+use Rattle.script_runner.specs.shared_device.specs.ruled_cells.proofs.{ClosingSteps.at_end, Order.never, Places.some_some, RuleSteps.rest_same}
+use Rattle.script_runner.specs.shared_device.specs.ruled_cells.specs.{Calls.IsOf, Calls.AreAll, Calls.seats_of, Reads.ChiefReads, Ruling.Names, Ruling.names, Ruling.access_cell}
+use Rattle.script_runner.specs.shared_device.specs.ruled_cells.specs.{Seats.IsSameSeat, Seats.NoTurns, Seats.seat_number, Stamps.stamps_after, Stamps.pending, Stamps.stamp}
+use Rattle.script_runner.specs.shared_device.specs.ruled_cells.specs.{Telling.MayGive, Telling.GaveCell, Telling.entered_view, Telling.changed_view, Turning.HasTurn, declared.about.SeatView.SeatView}
+use Rattle.script_runner.specs.shared_device.specs.ruled_cells.specs.declared.{cell_value.CellValue.CellValue, cell_value.CellValue.TheVariants.Rest, cells.Cells.Cells, seat.Seat.Seat}
 use Rattle.threads_tests.specs.Tally.{Tally, Adds, IsAdded, MayHaveAdded, IsIdle, above_both, follows, tally_reads}
-use Rattle.journal_core.specs.Entries.{is_control}
-use Rattle.script_runner.specs.shared_device.specs.ruled_cells.specs.declared.cell_value.CellValue.TheVariants.{Rest}
-use Rattle.script_runner.specs.shared_device.specs.ruled_cells.specs.declared.seat.Seat.{Seat}
-use Rattle.script_runner.specs.shared_device.specs.ruled_cells.specs.declared.cells.Cells.{Cells}
-use Rattle.script_runner.specs.shared_device.specs.ruled_cells.specs.Seats.{IsSameSeat, NoTurns, seat_number}
-use Rattle.script_runner.specs.shared_device.specs.ruled_cells.specs.Calls.{IsOf, AreAll, seats_of}
-use Rattle.script_runner.specs.shared_device.specs.ruled_cells.proofs.Places.{some_some}
-use Rattle.script_runner.specs.shared_device.specs.ruled_cells.proofs.ClosingSteps.{at_end}
-use Rattle.script_runner.specs.shared_device.specs.ruled_cells.proofs.RuleSteps.{rest_same}
-use Rattle.script_runner.specs.shared_device.specs.ruled_cells.proofs.Order.{never}
 
 module _ {F : Type 0} (chief : ChiefReads F) where
   abbrev w : Names F Tally

@@ -1,15 +1,9 @@
 -- A device of two hosts, its passes, and what it leaves.
 use Rattle.std.specs.Prelude.{◌≡◌, ℕ, ◌<◌, List, length, slice_index_or}
-use Rattle.dcd_base.specs.declared.ids.HostId.{HostId}
-use Rattle.dcd_base.specs.declared.steps.Actor.{Actor}
-use Rattle.journal_core.specs.declared.entries.Entry.{Entry}
-use Rattle.journal_core.specs.Merging.{AllRise}
+use Rattle.dcd_base.specs.declared.{ids.HostId.HostId, steps.Actor.Actor}
+use Rattle.journal_core.specs.{declared.entries.Entry.Entry, Merging.AllRise}
 use Rattle.region_config.specs.Configurations.{Configuration}
-use Rattle.script_runner.specs.shared_device.specs.ruled_cells.specs.Calls.{seats_of}
-use Rattle.script_runner.specs.shared_device.specs.Closing.{IsClosed}
-use Rattle.script_runner.specs.shared_device.specs.declared.pass.Pass.{Pass}
-use Rattle.script_runner.specs.shared_device.specs.declared.shared.Shared.{Shared}
-use Rattle.script_runner.specs.shared_device.specs.Passing.{IsOneOf, pass_number}
+use Rattle.script_runner.specs.shared_device.specs.{ruled_cells.specs.Calls.seats_of, Closing.IsClosed, declared.pass.Pass.Pass, declared.shared.Shared.Shared, Passing.IsOneOf, Passing.pass_number}
 
 abbrev pub hosts_at : Shared → ℕ
 hosts_at s = s.config.hosts

@@ -1,21 +1,14 @@
 -- A counter with its history: a small value of a cell, for the tests.
 -- It counts its accesses, and the scrubs of the journal that name its index.
 use Rattle.std.specs.Prelude.{◌≡◌, ℕ, ◌+◌, ◌<◌, Bool, false, ◌==◌, List, [], ◌∷◌, ◌++◌, length, if◌then◌else◌, max, ◌⊎◌, None}
-use Rattle.std.proofs.Common.{refl, ap, ◌∙◌, arith, cond}
-use Rattle.std.proofs.lemmas.List.{length_push}
+use Rattle.std.proofs.{Common.refl, Common.ap, Common.◌∙◌, Common.arith, Common.cond, lemmas.List.length_push}
 use mathlib.Core.Option.{some}
 use lib.ListN.{get_elem?}
-use Rattle.dcd_base.specs.declared.steps.Stamp.{Stamp}
-use Rattle.dcd_base.specs.declared.steps.Actor.{Actor}
+use Rattle.dcd_base.specs.declared.steps.{Stamp.Stamp, Actor.Actor}
 use Rattle.region_config.specs.Configurations.{Configuration}
-use Rattle.journal_core.specs.declared.acts.Act.{Act}
-use Rattle.journal_core.specs.declared.entries.Entry.{Entry}
-use Rattle.journal_core.specs.Entries.{is_control}
-use Rattle.script_runner.specs.shared_device.specs.ruled_cells.specs.Laws.{AccessEnters, ChangeIs, Stays, AccessKeeps, ChangeMakes}
-use Rattle.script_runner.specs.shared_device.specs.ruled_cells.specs.declared.about.SeatView.{SeatView}
-use Rattle.script_runner.specs.shared_device.specs.ruled_cells.specs.Booking.{weigh}
-use Rattle.script_runner.specs.shared_device.specs.ruled_cells.specs.Reads.{ChiefReads, MemberReads}
-use Rattle.script_runner.specs.shared_device.specs.ruled_cells.specs.Stamps.{stamp}
+use Rattle.journal_core.specs.{declared.acts.Act.Act, declared.entries.Entry.Entry, Entries.is_control}
+use Rattle.script_runner.specs.shared_device.specs.ruled_cells.specs.{Booking.weigh, Laws.AccessEnters, Laws.ChangeIs, Laws.Stays, Laws.AccessKeeps, Laws.ChangeMakes}
+use Rattle.script_runner.specs.shared_device.specs.ruled_cells.specs.{Reads.ChiefReads, Reads.MemberReads, Stamps.stamp, declared.about.SeatView.SeatView}
 
 pub record Tally : Type 0 where
   pub index : ℕ

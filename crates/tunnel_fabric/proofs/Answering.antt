@@ -1,23 +1,14 @@
 -- A command is answered by a short response.
 use Rattle.std.proofs.Common.{◌≡◌, ℕ, List, [], true, Ok, Err, sym, ap, ◌∙◌, subst}
-use Rattle.std.specs.declared.result.Result.{Result}
-use Rattle.std.specs.List.{Contains}
-use Rattle.std.proofs.lemmas.List.Elements.{All-contains, Contains-push}
+use Rattle.std.{specs.declared.result.Result.Result, specs.List.Contains, proofs.lemmas.List.Elements.All-contains, proofs.lemmas.List.Elements.Contains-push}
 use Rattle.dcd_base.specs.declared.steps.Actor.{Actor}
 use Rattle.dcd_codes.specs.declared.rules.Rule.{Rule}
 use Rattle.cci_codec.specs.declared.messages.Request.{Request}
 use Rattle.region_config.specs.Configurations.{Configuration}
-use Rattle.journal_core.specs.declared.acts.Act.{Act}
-use Rattle.journal_core.specs.declared.acts.Reply.{Reply}
-use Rattle.journal_core.specs.declared.entries.Entry.{Entry}
-use Rattle.journal_core.specs.Entries.{fits}
-use Rattle.journal_core.proofs.EachPlaces.{Each-at}
+use Rattle.journal_core.{specs.declared.acts.Act.Act, specs.declared.acts.Reply.Reply, specs.declared.entries.Entry.Entry, specs.Entries.fits, proofs.EachPlaces.Each-at}
 use Rattle.fm_payloads.specs.ManagerPayloads.{manager_request}
-use Rattle.device_plain.specs.device_rules.specs.Answers.{manager_result, reply_with}
-use Rattle.device_plain.specs.device_rules.specs.Outcomes.{Outcome}
-use Rattle.device_plain.specs.device_rules.specs.Legal.{Legal, Meets, right_answer}
-use Rattle.device_plain.specs.control_core.specs.Deciding.{AreShort, IsShort}
-use Rattle.device_plain.specs.Devices.{Enters, Plain}
+use Rattle.device_plain.specs.{Devices.Enters, Devices.Plain, control_core.specs.Deciding.AreShort, control_core.specs.Deciding.IsShort}
+use Rattle.device_plain.specs.device_rules.specs.{Answers.manager_result, Answers.reply_with, Legal.Legal, Legal.Meets, Legal.right_answer, Outcomes.Outcome}
 use Rattle.tunnel_fabric.specs.Stepping.{AnswersCommand}
 
 -- what answers a message is a response

@@ -1,26 +1,16 @@
 -- A device's script stands within its fabric.
 use Rattle.std.proofs.Common.{◌≡◌, ℕ, zero, suc, ◌+◌, ◌≤◌, Bool, true, false, cond, ◌==◌, ◌||◌, not, List, [], ◌∷◌, length, replicate, Result, Ok, Err, refl, sym, ap, ◌∙◌, subst, arith, length-append}
-use Rattle.std.specs.Prelude.{flat_map}
-use Rattle.std.specs.List.{AllByRecursion}
-use Rattle.std.specs.Int.{w32, byte_len, bytes_low_first}
-use Rattle.std.proofs.lemmas.Bool.Decides.{nat_tests}
+use Rattle.std.{specs.Prelude.flat_map, specs.List.AllByRecursion, specs.Int.w32, specs.Int.byte_len, specs.Int.bytes_low_first, proofs.lemmas.Bool.Decides.nat_tests}
 use Rattle.dcd_base.specs.Layouts.{Field, Number, Masked, Raw, Reserved, Fixed, FitsField, Reads, spell, spelling}
-use Rattle.dcd_base.proofs.Fields.{IsBytes, all_bytes, length_of_fields}
-use Rattle.dcd_base.proofs.Widths.{wide_32}
+use Rattle.dcd_base.proofs.{Fields.IsBytes, Fields.all_bytes, Fields.length_of_fields, Widths.wide_32}
 use Rattle.region_config.specs.Configurations.{Configuration}
-use Rattle.report.specs.script_codec.specs.declared.faults.ScriptFault.{ScriptFault}
-use Rattle.report.specs.script_codec.specs.declared.script_line.Line.{Line}
-use Rattle.report.specs.script_codec.specs.declared.scripts.Script.{Script}
-use Rattle.report.specs.script_codec.specs.Fields.{skip, part, number_from}
-use Rattle.report.specs.script_codec.specs.Reading.{script_in}
-use Rattle.report.specs.script_codec.specs.Scripts.{are_lanes, script_fields, IsScript, ReadsScript}
-use Rattle.report.specs.script_codec.proofs.FieldLaws.{number_is, number_sound, part_bytes, skip_is, skip_sound}
-use Rattle.report.specs.script_codec.proofs.ScriptLaws.{script_is, script_sound}
+use Rattle.report.specs.script_codec.proofs.{FieldLaws.number_is, FieldLaws.number_sound, FieldLaws.part_bytes, FieldLaws.skip_is, FieldLaws.skip_sound, ScriptLaws.script_is, ScriptLaws.script_sound}
 use Rattle.report.specs.script_codec.proofs.Spans.{AllStand, Spans, part_length, parted, size, spans_in, spans_out, spans_then}
-use Rattle.tunnel_fabric.specs.declared.faults.FabricFault.{FabricFault}
-use Rattle.tunnel_fabric.specs.FabricFaults.{as_in_script}
-use Rattle.tunnel_fabric.specs.FabricLayout.{bare_script, device_fields}
+use Rattle.report.specs.script_codec.specs.{Fields.skip, Fields.part, Fields.number_from, Reading.script_in, Scripts.are_lanes, Scripts.script_fields, Scripts.IsScript, Scripts.ReadsScript}
+use Rattle.report.specs.script_codec.specs.declared.{faults.ScriptFault.ScriptFault, script_line.Line.Line, scripts.Script.Script}
+use Rattle.tunnel_fabric.specs.{FabricFaults.as_in_script, FabricLayout.bare_script, FabricLayout.device_fields}
 use Rattle.tunnel_fabric.specs.FabricReading.{◌▸◌, bare_config, bare_of, config_told, device_script_from, devices_from}
+use Rattle.tunnel_fabric.specs.declared.faults.FabricFault.{FabricFault}
 
 -- ---- one step after another
 pub record FabricBound {A B : Type 0} (first : Result A FabricFault) (next : A → Result B FabricFault) (y : B) : Type 0 where

@@ -1,24 +1,15 @@
 -- From what is decided upon an input to what is planned for it.
 use Rattle.std.proofs.Common.{◌≡◌, ℕ, ◌<◌, ◌≤◌, true, not, List, [], ◌∷◌, Some, Ok, Err, length, take, refl, sym, ap, subst, ◌∙◌, arith}
-use Rattle.std.proofs.lemmas.List.{length-take, take_all}
-use Rattle.std.proofs.lemmas.Bool.{and_parts}
-use Rattle.std.specs.List.{list_all}
-use Rattle.std.specs.Prelude.{IfOk, slice_get}
+use Rattle.std.{proofs.lemmas.Bool.and_parts, proofs.lemmas.List.length-take, proofs.lemmas.List.take_all, specs.List.list_all, specs.Prelude.IfOk, specs.Prelude.slice_get}
 use Rattle.std.specs.declared.result.Result.{Result}
 use Rattle.dcd_base.specs.declared.failures.NoMemory.{NoMemory}
 use Rattle.edge_io.specs.Meanings.{Decides}
 use Rattle.region_config.specs.Configurations.{Configuration}
-use Rattle.tunnel_fabric.specs.declared.fabric_lines.FabricLine.{FabricLine}
-use Rattle.tunnel_fabric.specs.declared.fabric_scripts.FabricScript.{FabricScript}
-use Rattle.tunnel_fabric.specs.declared.faults.FabricFault.{FabricFault}
-use Rattle.tunnel_fabric.specs.declared.texts.FabricText.{FabricText}
-use Rattle.tunnel_fabric.specs.declared.status.FabricStatus.{FabricStatus}
-use Rattle.tunnel_fabric.specs.FabricLayout.{fits_there, is_manager, is_sound_fabric_line, ReadsFabric}
-use Rattle.tunnel_fabric.specs.FabricReading.{fabric_in}
-use Rattle.tunnel_fabric.specs.Planning.{HasFewDevices, IsTextOfRun, bytes_of, fabric_program, most_bytes, most_of_fabric}
-use Rattle.tunnel_fabric.specs.Printing.{fabric_refusal}
-use Rattle.tunnel_fabric.specs.Sending.{CanRun, fits_fabric_line}
 use Rattle.tunnel_fabric.proofs.FabricLaws.{fabric_is, fabric_too_long}
+use Rattle.tunnel_fabric.specs.{FabricLayout.fits_there, FabricLayout.is_manager, FabricLayout.is_sound_fabric_line, FabricLayout.ReadsFabric, FabricReading.fabric_in}
+use Rattle.tunnel_fabric.specs.{Planning.HasFewDevices, Planning.IsTextOfRun, Planning.bytes_of, Planning.fabric_program, Planning.most_bytes, Planning.most_of_fabric, Printing.fabric_refusal}
+use Rattle.tunnel_fabric.specs.{Sending.CanRun, Sending.fits_fabric_line, declared.fabric_lines.FabricLine.FabricLine, declared.fabric_scripts.FabricScript.FabricScript}
+use Rattle.tunnel_fabric.specs.declared.{faults.FabricFault.FabricFault, status.FabricStatus.FabricStatus, texts.FabricText.FabricText}
 
 abbrev Decided : Type 0
 Decided = Result (FabricStatus × FabricText) NoMemory

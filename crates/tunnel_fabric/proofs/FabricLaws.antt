@@ -1,34 +1,22 @@
 -- A fabric is read exactly where its fields stand.
 use Rattle.std.proofs.Common.{◌≡◌, ℕ, zero, suc, ◌+◌, ◌≤◌, Bool, true, false, cond, nat_lt, ◌==◌, not, List, [], ◌∷◌, ◌++◌, length, Result, Ok, Err, refl, sym, ◌∙◌, subst, arith, append_assoc}
-use Rattle.std.specs.Prelude.{flat_map, slice_get, Some, IfOk}
-use Rattle.std.specs.List.{list_all, AllByRecursion}
-use Rattle.std.specs.Int.{w8, w16}
-use Rattle.std.proofs.lemmas.Bool.{le-ltb, lt-ltb}
-use Rattle.std.proofs.lemmas.Bool.Decides.{nat_tests}
-use Rattle.std.proofs.lemmas.Option.{none-some, same_Some}
+use Rattle.std.{proofs.lemmas.Bool.le-ltb, proofs.lemmas.Bool.lt-ltb, proofs.lemmas.Bool.Decides.nat_tests, proofs.lemmas.Option.none-some, proofs.lemmas.Option.same_Some, specs.Int.w8, specs.Int.w16}
+use Rattle.std.specs.{List.list_all, List.AllByRecursion, Prelude.flat_map, Prelude.slice_get, Prelude.Some, Prelude.IfOk}
 use lib.Pointwise.{pointwise, bytes_decides}
 use borrow.Author.Tests.{ltb-false, eqb-true}
-use Rattle.dcd_base.specs.Layouts.{Field, Number, Raw}
-use Rattle.dcd_base.proofs.Fields.{IsBytes, all_bytes}
-use Rattle.dcd_base.proofs.Widths.{wide_8, wide_16}
+use Rattle.dcd_base.{specs.Layouts.Field, specs.Layouts.Number, specs.Layouts.Raw, proofs.Fields.IsBytes, proofs.Fields.all_bytes, proofs.Widths.wide_8, proofs.Widths.wide_16}
 use Rattle.region_config.specs.Configurations.{Configuration}
-use Rattle.report.specs.script_codec.specs.declared.faults.ScriptFault.{ScriptFault}
-use Rattle.report.specs.script_codec.specs.Fields.{◌>>=◌, number_from, part, skip}
-use Rattle.report.specs.script_codec.specs.Scripts.{IsScript}
 use Rattle.report.specs.script_codec.proofs.FieldLaws.{bound, number_is, number_sound, ok_is, passed, passing, skip_is, skip_sound}
-use Rattle.report.specs.script_codec.proofs.LineLaws.{both}
-use Rattle.report.specs.script_codec.proofs.ScriptLaws.{each_byte}
-use Rattle.report.specs.script_codec.proofs.Spans.{Spans, Stands, parted, reads_from_spans, spans_from_reads, spans_then}
+use Rattle.report.specs.script_codec.proofs.{LineLaws.both, ScriptLaws.each_byte, Spans.Spans, Spans.Stands, Spans.parted, Spans.reads_from_spans, Spans.spans_from_reads, Spans.spans_then}
 use Rattle.report.specs.script_codec.proofs.Writable.{both_first, both_second, counted}
-use Rattle.tunnel_fabric.specs.declared.fabric_lines.FabricLine.{FabricLine}
-use Rattle.tunnel_fabric.specs.declared.fabric_scripts.FabricScript.{FabricScript}
-use Rattle.tunnel_fabric.specs.declared.faults.FabricFault.{FabricFault}
-use Rattle.tunnel_fabric.specs.FabricFaults.{as_in_script}
-use Rattle.tunnel_fabric.specs.FabricLayout.{bare_script, device_fields, fabric_fields, fabric_front, fabric_line_fields, fabric_magic, is_sound_fabric_line, ReadsFabric}
-use Rattle.tunnel_fabric.specs.FabricLines.{fabric_end_from, fabric_kind_from, fabric_line_from, fabric_lines_from}
-use Rattle.tunnel_fabric.specs.FabricReading.{bad_device_count, device_count_in, devices_from, fabric_fields_in, fabric_in, fabric_magic_from, fabric_version_from, front_from, GivesFabric, IsFabricRead, IsReadAsFabric, most_fabric_bytes, most_fabric_lines}
+use Rattle.report.specs.script_codec.specs.{Fields.◌>>=◌, Fields.number_from, Fields.part, Fields.skip, Scripts.IsScript, declared.faults.ScriptFault.ScriptFault}
 use Rattle.tunnel_fabric.proofs.FabricDevices.{devices_are, devices_sound, fabric_bound, fabric_ok, fabric_passed, in_script}
 use Rattle.tunnel_fabric.proofs.FabricLineLaws.{FabricLineStands, fabric_kind_is, fabric_kind_sound, fabric_line_is, fabric_line_sound}
+use Rattle.tunnel_fabric.specs.FabricFaults.{as_in_script}
+use Rattle.tunnel_fabric.specs.FabricLayout.{bare_script, device_fields, fabric_fields, fabric_front, fabric_line_fields, fabric_magic, is_sound_fabric_line, ReadsFabric}
+use Rattle.tunnel_fabric.specs.{FabricLines.fabric_end_from, FabricLines.fabric_kind_from, FabricLines.fabric_line_from, FabricLines.fabric_lines_from, declared.fabric_lines.FabricLine.FabricLine}
+use Rattle.tunnel_fabric.specs.declared.{fabric_scripts.FabricScript.FabricScript, faults.FabricFault.FabricFault}
+use Rattle.tunnel_fabric.specs.FabricReading.{bad_device_count, device_count_in, devices_from, fabric_fields_in, fabric_in, fabric_magic_from, fabric_version_from, front_from, GivesFabric, IsFabricRead, IsReadAsFabric, most_fabric_bytes, most_fabric_lines}
 
 -- the end word
 abbrev end_fields : List Field

@@ -1,30 +1,16 @@
 -- What reading a line of a fabric answers is what stands there.
 use Rattle.std.proofs.Common.{◌≡◌, ℕ, zero, suc, ◌+◌, ◌*◌, ◌≤◌, Bool, true, false, cond, nat_lt, ◌==◌, ◌&&◌, ◌||◌, not, List, [], ◌∷◌, length, Option, Some, None, Ok, Err, refl, sym, ap, ◌∙◌, subst, arith}
-use Rattle.std.specs.Prelude.{slice_get}
-use Rattle.std.specs.Int.{w8, w16}
-use Rattle.std.proofs.lemmas.Bool.{le-ltb, false≢true}
-use Rattle.std.proofs.lemmas.Bool.Decides.{nat_tests}
+use Rattle.std.{specs.Prelude.slice_get, specs.Int.w8, specs.Int.w16, proofs.lemmas.Bool.le-ltb, proofs.lemmas.Bool.false≢true, proofs.lemmas.Bool.Decides.nat_tests}
 use borrow.Author.Tests.{ltb-true, ltb-false, eqb-true}
-use Rattle.dcd_base.specs.declared.steps.Actor.{Actor}
-use Rattle.dcd_base.specs.Layouts.{Number}
-use Rattle.dcd_base.proofs.Fields.{IsBytes}
-use Rattle.dcd_base.proofs.Widths.{wide_8, wide_16}
-use Rattle.cci_codec.specs.declared.messages.Request.{Request}
-use Rattle.cci_codec.specs.Messages.{request_fields}
+use Rattle.dcd_base.{specs.declared.steps.Actor.Actor, specs.Layouts.Number, proofs.Fields.IsBytes, proofs.Widths.wide_8, proofs.Widths.wide_16}
+use Rattle.cci_codec.specs.{declared.messages.Request.Request, Messages.request_fields}
 use Rattle.region_config.specs.Configurations.{Configuration}
-use Rattle.journal_core.specs.declared.acts.Act.{Act}
-use Rattle.journal_core.specs.Entries.{fits}
-use Rattle.report.specs.script_codec.specs.declared.faults.ScriptFault.{ScriptFault}
-use Rattle.report.specs.script_codec.specs.declared.script_line.Line.{Line}
-use Rattle.report.specs.script_codec.specs.Fields.{number_from}
-use Rattle.report.specs.script_codec.specs.Lines.{kind_from, line_from, message_from}
-use Rattle.report.specs.script_codec.specs.Scripts.{act_fields, is_lane}
+use Rattle.journal_core.specs.{declared.acts.Act.Act, Entries.fits}
 use Rattle.report.specs.script_codec.proofs.FieldLaws.{bound, number_is, number_sound, ok_is, passed, skip_is}
-use Rattle.report.specs.script_codec.proofs.LineLaws.{LineStands, line_is, line_sound, message_is, message_sound}
-use Rattle.report.specs.script_codec.proofs.Spans.{Spans, Stands, spans_then}
-use Rattle.report.specs.script_codec.proofs.Writable.{both_first, both_second}
-use Rattle.tunnel_fabric.specs.declared.fabric_lines.FabricLine.{FabricLine}
-use Rattle.tunnel_fabric.specs.FabricLayout.{fabric_line_fields, fits_there, is_manager, is_sound_fabric_line}
+use Rattle.report.specs.script_codec.proofs.{LineLaws.LineStands, LineLaws.line_is, LineLaws.line_sound, LineLaws.message_is, LineLaws.message_sound, Spans.Spans, Spans.Stands, Spans.spans_then}
+use Rattle.report.specs.script_codec.{proofs.Writable.both_first, proofs.Writable.both_second, specs.Fields.number_from, specs.Lines.kind_from, specs.Lines.line_from, specs.Lines.message_from}
+use Rattle.report.specs.script_codec.specs.{Scripts.act_fields, Scripts.is_lane, declared.faults.ScriptFault.ScriptFault, declared.script_line.Line.Line}
+use Rattle.tunnel_fabric.specs.{declared.fabric_lines.FabricLine.FabricLine, FabricLayout.fabric_line_fields, FabricLayout.fits_there, FabricLayout.is_manager, FabricLayout.is_sound_fabric_line}
 use Rattle.tunnel_fabric.specs.FabricLines.{as_local, device_from, fabric_kind_from, fabric_line_from, hosts_in, hosts_of_device, local_from, local_kind_from, no_manager_from, tunnel_from}
 
 either_first : (a b : Bool) → (a || b) ≡ false → a ≡ false

@@ -2,10 +2,8 @@
 use Rattle.std.proofs.Common.{◌≡◌, ℕ, zero, suc, List, [], ◌∷◌, ◌++◌, Result, Ok, Err, refl, sym, ap, ◌∙◌, append-nil, append_assoc, eqb, false}
 use Rattle.region_config.specs.Configurations.{Configuration}
 use Rattle.report.specs.script_codec.specs.declared.faults.ScriptFault.{ScriptFault}
-use Rattle.tunnel_fabric.specs.declared.fabric_lines.FabricLine.{FabricLine}
-use Rattle.tunnel_fabric.specs.declared.faults.FabricFault.{FabricFault}
 use Rattle.tunnel_fabric.specs.FabricLines.{fabric_end_from, fabric_kind_from, fabric_line_from, fabric_line_then, fabric_lines_from}
-use Rattle.tunnel_fabric.specs.FabricReading.{◌▸◌, device_script_from, devices_from}
+use Rattle.tunnel_fabric.specs.{FabricReading.◌▸◌, FabricReading.device_script_from, FabricReading.devices_from, declared.fabric_lines.FabricLine.FabricLine, declared.faults.FabricFault.FabricFault}
 
 -- ---- lines
 

@@ -1,35 +1,22 @@
 -- One more line of a run.
 use Rattle.std.proofs.Common.{◌≡◌, ℕ, zero, suc, ◌+◌, ◌<◌, ◌≤◌, Bool, true, false, cond, List, [], inl, inr, get_or, ◌∷◌, ◌++◌, length, refl, sym, ap, ◌∙◌, subst, arith, append-nil}
 use Rattle.std.specs.Prelude.{IfOk, Ok, Err, map, flat_map, take, Option, Some, None, slice_get, if◌then◌else◌, ◌==◌, ◌&&◌}
-use Rattle.std.specs.Option.{option_map}
-use Rattle.std.specs.declared.result.Result.{Result}
-use Rattle.std.specs.List.{All, AllByRecursion, Contains, enumerate_from, list_all}
-use Rattle.std.proofs.Math.Seq.{take-suc}
-use Rattle.std.proofs.lemmas.Bool.{eqb-false, false≢true}
-use borrow.Author.Tests.{eqb-true}
-use Rattle.std.proofs.lemmas.Option.{slice_get-get_or, slice_get_cases, slice_get_past, slice_get_within, slice_get-map, none-some, same_Some}
-use Rattle.std.proofs.lemmas.Grind.{flat_map-append}
-use Rattle.std.proofs.lemmas.List.{length-map, length-take-le, map-append}
+use Rattle.std.proofs.{Math.Seq.take-suc, lemmas.Bool.eqb-false, lemmas.Bool.false≢true, lemmas.Grind.flat_map-append, lemmas.List.length-map, lemmas.List.length-take-le, lemmas.List.map-append}
 use Rattle.std.proofs.lemmas.List.Elements.{All-cons, All-nil, Contains-append_left, Contains-push}
-use Rattle.dcd_base.specs.declared.failures.NoMemory.{NoMemory}
-use Rattle.dcd_base.specs.declared.steps.Actor.{Actor}
-use Rattle.cci_codec.specs.declared.messages.Request.{Request}
-use Rattle.cci_codec.specs.declared.messages.Response.{Response}
-use Rattle.journal_core.specs.declared.acts.Act.{Act}
-use Rattle.journal_core.specs.declared.acts.Reply.{Reply}
-use Rattle.journal_core.specs.declared.entries.Entry.{Entry}
+use Rattle.std.proofs.lemmas.Option.{slice_get-get_or, slice_get_cases, slice_get_past, slice_get_within, slice_get-map, none-some, same_Some}
+use Rattle.std.specs.{List.All, List.AllByRecursion, List.Contains, List.enumerate_from, List.list_all, Option.option_map, declared.result.Result.Result}
+use borrow.Author.Tests.{eqb-true}
+use Rattle.dcd_base.specs.declared.{failures.NoMemory.NoMemory, steps.Actor.Actor}
+use Rattle.cci_codec.specs.declared.messages.{Request.Request, Response.Response}
+use Rattle.journal_core.specs.declared.{acts.Act.Act, acts.Reply.Reply, entries.Entry.Entry}
 use Rattle.region_config.specs.Configurations.{Configuration}
 use Rattle.device_plain.specs.Devices.{Enters, Plain}
 use Rattle.report.specs.script_codec.specs.Covering.{pass_of}
-use Rattle.tunnel_fabric.specs.FabricLayout.{fits_there}
-use Rattle.tunnel_fabric.specs.declared.fabric_lines.FabricLine.{FabricLine}
-use Rattle.tunnel_fabric.specs.declared.fabric_scripts.FabricScript.{FabricScript}
+use Rattle.tunnel_fabric.{proofs.Wrapping.wrapped_short, specs.FabricLayout.fits_there}
+use Rattle.tunnel_fabric.specs.{Tunnels.inner_of, Tunnels.tunnel_refused, Tunnels.target_of, Tunnels.tunnel_rule, Tunnels.tunnel_wrapped, declared.fabric_lines.FabricLine.FabricLine}
+use Rattle.tunnel_fabric.specs.declared.{fabric_scripts.FabricScript.FabricScript, replies.Replied.Replied, rules.TunnelRule.TunnelRule}
 use Rattle.tunnel_fabric.specs.Sending.{AreReplies, CanRun, IsShortReply, DidAllSent, HasOnePass, IsReply, IsFabricRun, IsReplyBy, Sent, fits_fabric_line, journal_in, sent, sent_by, sent_through, sent_of, tunnel_of}
 use Rattle.tunnel_fabric.specs.Stepping.{DidFront, DoesAll, IsSoundDevice, LineDone, RanFront, Reached, StepsOne, fits_device, fresh_devices, front_of, line_fits}
-use Rattle.tunnel_fabric.specs.Tunnels.{inner_of, tunnel_refused, target_of, tunnel_rule, tunnel_wrapped}
-use Rattle.tunnel_fabric.specs.declared.replies.Replied.{Replied}
-use Rattle.tunnel_fabric.proofs.Wrapping.{wrapped_short}
-use Rattle.tunnel_fabric.specs.declared.rules.TunnelRule.{TunnelRule}
 
 both_first : (a b : Bool) → (a && b) ≡ true → a ≡ true
 both_first true b all = refl

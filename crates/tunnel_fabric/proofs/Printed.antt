@@ -1,19 +1,11 @@
 -- How the texts of a fabric are put together.
 use Rattle.std.proofs.Common.{◌≡◌, ℕ, zero, suc, ◌+◌, ◌<◌, List, [], ◌∷◌, ◌++◌, length, take, drop, get_or, refl, sym, ap, ◌∙◌, subst, arith, append-nil}
+use Rattle.std.{proofs.Math.Seq.take-suc, proofs.lemmas.Fmt.decimal_digit, proofs.lemmas.Grind.flat_map-append, proofs.lemmas.List.length-take-le, specs.List.enumerate_from}
 use Rattle.std.specs.Prelude.{flat_map, Option}
-use Rattle.std.specs.List.{enumerate_from}
-use Rattle.std.proofs.Math.Seq.{take-suc}
-use Rattle.std.proofs.lemmas.Fmt.{decimal_digit}
-use Rattle.std.proofs.lemmas.Grind.{flat_map-append}
-use Rattle.std.proofs.lemmas.List.{length-take-le}
-use Rattle.dcd_base.specs.Streams.{Passes}
-use Rattle.dcd_base.proofs.Passing.{passes_both, passes_front}
-use Rattle.dcd_base.specs.Layouts.{Raw, spell, spelling}
-use Rattle.cci_codec.specs.declared.messages.Response.{Response}
-use Rattle.cci_codec.specs.Messages.{response_bytes, response_head_fields}
+use Rattle.dcd_base.{specs.Streams.Passes, proofs.Passing.passes_both, proofs.Passing.passes_front, specs.Layouts.Raw, specs.Layouts.spell, specs.Layouts.spelling}
+use Rattle.cci_codec.specs.{declared.messages.Response.Response, Messages.response_bytes, Messages.response_head_fields}
 use Rattle.device_plain.specs.Devices.{Plain}
-use Rattle.tunnel_fabric.specs.Printing.{device_head, device_lines, devices_text}
-use Rattle.tunnel_fabric.proofs.Fronts.{numbered_more, flat_one, all_taken}
+use Rattle.tunnel_fabric.{specs.Printing.device_head, specs.Printing.device_lines, specs.Printing.devices_text, proofs.Fronts.numbered_more, proofs.Fronts.flat_one, proofs.Fronts.all_taken}
 
 -- ---- responses
 

@@ -1,20 +1,12 @@
 -- The journal of a device is a function of its configuration and of what it is sent.
 use Rattle.std.proofs.Common.{◌≡◌, ℕ, List, [], ◌∷◌, ◌++◌, refl, sym, ap, ◌∙◌, subst}
-use Rattle.std.specs.Prelude.{map, Option, Some, None}
-use Rattle.std.specs.List.{AllByRecursion}
+use Rattle.std.specs.{Prelude.map, Prelude.Option, Prelude.Some, Prelude.None, List.AllByRecursion}
 use Rattle.dcd_base.specs.declared.steps.Stamp.{Stamp}
-use Rattle.journal_core.specs.declared.acts.Reply.{Reply}
-use Rattle.journal_core.specs.declared.outcome.Effect.{Effect}
-use Rattle.journal_core.specs.declared.entries.Entry.{Entry}
-use Rattle.journal_core.specs.Entries.{EachFrom}
+use Rattle.journal_core.specs.{declared.acts.Reply.Reply, declared.outcome.Effect.Effect, declared.entries.Entry.Entry, Entries.EachFrom}
 use Rattle.region_config.specs.Configurations.{Configuration}
-use Rattle.device_plain.specs.device_rules.specs.Legal.{Meets, right_answer}
-use Rattle.device_plain.specs.Devices.{Plain}
-use Rattle.device_plain.specs.Numbering.{IsCounted, stamp_behind}
+use Rattle.device_plain.specs.{device_rules.specs.Legal.Meets, device_rules.specs.Legal.right_answer, Devices.Plain, Numbering.IsCounted, Numbering.stamp_behind}
 use Rattle.report.specs.script_codec.specs.Covering.{pass_of}
-use Rattle.tunnel_fabric.specs.declared.fabric_scripts.FabricScript.{FabricScript}
-use Rattle.tunnel_fabric.specs.Sending.{DidAllSent, HasOnePass, Sent, sent, sent_of}
-use Rattle.tunnel_fabric.specs.Worlds.{SameJournals}
+use Rattle.tunnel_fabric.specs.{declared.fabric_scripts.FabricScript.FabricScript, Sending.DidAllSent, Sending.HasOnePass, Sending.Sent, Sending.sent, Sending.sent_of, Worlds.SameJournals}
 
 module _ (c : Configuration) where
   -- the one entry behind these that is of what was sent

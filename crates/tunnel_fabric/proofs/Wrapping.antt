@@ -1,8 +1,7 @@
 -- The payload around the response of a device.
 use Rattle.std.proofs.Common.{◌≡◌, ℕ, suc, ◌≤◌, [], ◌++◌, length, refl, ap, arith, append-nil}
 use Rattle.dcd_base.specs.Layouts.{spelling}
-use Rattle.cci_codec.specs.declared.messages.Response.{Response}
-use Rattle.cci_codec.specs.Messages.{response_bytes}
+use Rattle.cci_codec.specs.{declared.messages.Response.Response, Messages.response_bytes}
 use Rattle.tunnel_fabric.specs.Tunnels.{wrapped_fields}
 
 -- around a short response the payload is short

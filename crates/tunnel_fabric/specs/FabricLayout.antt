@@ -1,17 +1,12 @@
 -- The bytes of a fabric, as a layout.
 use Rattle.std.specs.Prelude.{◌≤◌, IsTrue, true, false, ℕ, ◌+◌, Bool, ◌&&◌, not, List, [], ◌∷◌, ◌++◌, length, flat_map, slice_get, Option, Some, None}
-use Rattle.std.specs.List.{list_all, AllByRecursion}
-use Rattle.std.specs.Int.{w8, w16, w32}
-use Rattle.dcd_base.specs.declared.steps.Actor.{Actor}
-use Rattle.dcd_base.specs.Layouts.{Reads, Field, Number, Raw, Reserved, spelling}
+use Rattle.std.specs.{List.list_all, List.AllByRecursion, Int.w8, Int.w16, Int.w32}
+use Rattle.dcd_base.specs.{declared.steps.Actor.Actor, Layouts.Reads, Layouts.Field, Layouts.Number, Layouts.Raw, Layouts.Reserved, Layouts.spelling}
 use Rattle.cci_codec.specs.Messages.{request_fields}
 use Rattle.region_config.specs.Configurations.{Configuration}
-use Rattle.journal_core.specs.declared.acts.Act.{Act}
-use Rattle.journal_core.specs.Entries.{fits}
-use Rattle.report.specs.script_codec.specs.declared.scripts.Script.{Script}
-use Rattle.report.specs.script_codec.specs.Scripts.{act_fields, script_fields, IsScript}
-use Rattle.tunnel_fabric.specs.declared.fabric_lines.FabricLine.{FabricLine}
-use Rattle.tunnel_fabric.specs.declared.fabric_scripts.FabricScript.{FabricScript}
+use Rattle.journal_core.specs.{declared.acts.Act.Act, Entries.fits}
+use Rattle.report.specs.script_codec.specs.{declared.scripts.Script.Script, Scripts.act_fields, Scripts.script_fields, Scripts.IsScript}
+use Rattle.tunnel_fabric.specs.declared.{fabric_lines.FabricLine.FabricLine, fabric_scripts.FabricScript.FabricScript}
 
 abbrev pub fabric_magic : List ℕ
 fabric_magic = 0x44 ∷ 0x43 ∷ 0x44 ∷ 0x46 ∷ []

@@ -3,10 +3,7 @@
 use Rattle.std.specs.Prelude.{◌≡◌, ◌≢◌, ℕ, zero, suc, ◌-◌, ◌<◌, ◌≤◌, ◌&&◌, ◌||◌, ◌==◌, nat_lt, List, [], ◌∷◌, length, slice_get, Option, Some, None, Result, Ok, Err, if◌then◌else◌}
 use Rattle.std.specs.Int.{w8, w16}
 use Rattle.region_config.specs.Configurations.{Configuration}
-use Rattle.report.specs.script_codec.specs.declared.faults.ScriptFault.{ScriptFault}
-use Rattle.report.specs.script_codec.specs.declared.script_line.Line.{Line}
-use Rattle.report.specs.script_codec.specs.Fields.{◌>>=◌, number_from}
-use Rattle.report.specs.script_codec.specs.Lines.{line_from, message_from}
+use Rattle.report.specs.script_codec.specs.{declared.faults.ScriptFault.ScriptFault, declared.script_line.Line.Line, Fields.◌>>=◌, Fields.number_from, Lines.line_from, Lines.message_from}
 use Rattle.tunnel_fabric.specs.declared.fabric_lines.FabricLine.{FabricLine}
 
 -- how many hosts the device has that the byte at the place names

@@ -3,15 +3,9 @@ use Rattle.std.specs.Prelude.{◌≡◌, ◌≢◌, ℕ, zero, suc, Bool, ◌||�
 use Rattle.std.specs.Int.{w8, w16, w32}
 use lib.Pointwise.{pointwise}
 use Rattle.region_config.specs.Configurations.{Configuration}
-use Rattle.report.specs.script_codec.specs.declared.faults.ScriptFault.{ScriptFault}
-use Rattle.report.specs.script_codec.specs.declared.scripts.Script.{Script}
-use Rattle.report.specs.script_codec.specs.Fields.{◌>>=◌, skip, part, number_from}
-use Rattle.report.specs.script_codec.specs.Reading.{script_in}
+use Rattle.report.specs.script_codec.specs.{declared.faults.ScriptFault.ScriptFault, declared.scripts.Script.Script, Fields.◌>>=◌, Fields.skip, Fields.part, Fields.number_from, Reading.script_in}
+use Rattle.tunnel_fabric.specs.{FabricFaults.as_in_script, FabricLayout.fabric_magic, FabricLines.fabric_lines_from, declared.fabric_scripts.FabricScript.FabricScript}
 use Rattle.tunnel_fabric.specs.declared.faults.FabricFault.{FabricFault}
-use Rattle.tunnel_fabric.specs.declared.fabric_scripts.FabricScript.{FabricScript}
-use Rattle.tunnel_fabric.specs.FabricFaults.{as_in_script}
-use Rattle.tunnel_fabric.specs.FabricLayout.{fabric_magic}
-use Rattle.tunnel_fabric.specs.FabricLines.{fabric_lines_from}
 
 -- how many bytes and how many lines a fabric may have
 abbrev pub most_fabric_bytes : ℕ

@@ -1,14 +1,9 @@
 -- What is to come of a fabric, and how it is printed.
 use Rattle.std.specs.Prelude.{◌≡◌, ℕ, ◌≤◌, List, ◌++◌, length, take, Some, Err}
 use Rattle.edge_io.specs.Meanings.{Meaning, asks_nothing}
-use Rattle.tunnel_fabric.specs.declared.fabric_scripts.FabricScript.{FabricScript}
+use Rattle.tunnel_fabric.specs.{FabricLayout.ReadsFabric, FabricReading.fabric_in, Printing.devices_text, Printing.fabric_refusal, Printing.fabric_text, Printing.fabric_usage_line}
+use Rattle.tunnel_fabric.specs.{Sending.IsFabricRun, Sending.RanFabric, Statuses.fabric_end, declared.fabric_scripts.FabricScript.FabricScript, declared.status.FabricStatus.FabricStatus}
 use Rattle.tunnel_fabric.specs.declared.texts.FabricText.{FabricText}
-use Rattle.tunnel_fabric.specs.FabricLayout.{ReadsFabric}
-use Rattle.tunnel_fabric.specs.FabricReading.{fabric_in}
-use Rattle.tunnel_fabric.specs.declared.status.FabricStatus.{FabricStatus}
-use Rattle.tunnel_fabric.specs.Printing.{devices_text, fabric_refusal, fabric_text, fabric_usage_line}
-use Rattle.tunnel_fabric.specs.Sending.{IsFabricRun, RanFabric}
-use Rattle.tunnel_fabric.specs.Statuses.{fabric_end}
 
 -- the most bytes that a fabric has, and the most that are read
 abbrev pub most_bytes : ℕ

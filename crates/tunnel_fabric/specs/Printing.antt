@@ -1,13 +1,10 @@
 -- What is printed of a fabric.
-use Rattle.std.specs.Prelude.{ℕ, List, [], ◌∷◌, ◌++◌, flat_map, codes, decimal}
-use Rattle.std.specs.List.{enumerate_from}
+use Rattle.std.specs.{Prelude.ℕ, Prelude.List, Prelude.[], Prelude.◌∷◌, Prelude.◌++◌, Prelude.flat_map, Prelude.codes, Prelude.decimal, List.enumerate_from}
 use Rattle.hex.specs.Hex.{encode_lower}
 use Rattle.cci_codec.specs.Messages.{response_bytes}
 use Rattle.device_plain.specs.Devices.{Plain}
 use Rattle.report.specs.Texts.{line_of, text}
-use Rattle.tunnel_fabric.specs.declared.faults.FabricFault.{FabricFault}
-use Rattle.tunnel_fabric.specs.declared.replies.Replied.{Replied}
-use Rattle.tunnel_fabric.specs.Sending.{RanFabric}
+use Rattle.tunnel_fabric.specs.{declared.faults.FabricFault.FabricFault, declared.replies.Replied.Replied, Sending.RanFabric}
 
 -- the reply to a message to the tunnel
 unfoldable pub tunnel_line : Replied → List ℕ

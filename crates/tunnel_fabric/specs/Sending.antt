@@ -2,25 +2,13 @@
 use Rattle.std.specs.Prelude.{◌≡◌, ℕ, ◌==◌, ◌≤◌, IsTrue, true, Bool, List, [], ◌∷◌, length, map, flat_map, slice_get, Option, Some, None, if◌then◌else◌}
 use Rattle.std.specs.List.{enumerate_from, list_all, AllByRecursion, Contains}
 use Rattle.dcd_base.specs.declared.steps.Actor.{Actor}
-use Rattle.cci_codec.specs.declared.messages.Request.{Request}
-use Rattle.cci_codec.specs.declared.messages.Response.{Response}
-use Rattle.journal_core.specs.declared.acts.Act.{Act}
-use Rattle.journal_core.specs.declared.acts.Reply.{Reply}
-use Rattle.journal_core.specs.declared.entries.Entry.{Entry}
-use Rattle.journal_core.specs.Entries.{Each}
-use Rattle.journal_core.specs.Merging.{Numbered}
-use Rattle.device_plain.specs.device_rules.specs.Legal.{Exclusive, Legal}
-use Rattle.device_plain.specs.isolation_laws.specs.Solo.{Isolated}
-use Rattle.device_plain.specs.Devices.{Plain}
-use Rattle.device_plain.specs.Numbering.{IsCounted}
+use Rattle.cci_codec.specs.declared.messages.{Request.Request, Response.Response}
+use Rattle.journal_core.specs.{declared.acts.Act.Act, declared.acts.Reply.Reply, declared.entries.Entry.Entry, Entries.Each, Merging.Numbered}
+use Rattle.device_plain.specs.{device_rules.specs.Legal.Exclusive, device_rules.specs.Legal.Legal, isolation_laws.specs.Solo.Isolated, Devices.Plain, Numbering.IsCounted}
 use Rattle.report.specs.script_codec.specs.Covering.{pass_of}
 use Rattle.region_config.specs.Configurations.{Configuration}
-use Rattle.tunnel_fabric.specs.declared.fabric_lines.FabricLine.{FabricLine}
-use Rattle.tunnel_fabric.specs.declared.fabric_scripts.FabricScript.{FabricScript}
-use Rattle.tunnel_fabric.specs.FabricLayout.{fits_there}
-use Rattle.tunnel_fabric.specs.declared.replies.Replied.{Replied}
-use Rattle.tunnel_fabric.specs.declared.rules.TunnelRule.{TunnelRule}
-use Rattle.tunnel_fabric.specs.Tunnels.{inner_of, tunnel_refused, target_of, tunnel_rule, tunnel_wrapped}
+use Rattle.tunnel_fabric.specs.{FabricLayout.fits_there, Tunnels.inner_of, Tunnels.tunnel_refused, Tunnels.target_of, Tunnels.tunnel_rule, Tunnels.tunnel_wrapped}
+use Rattle.tunnel_fabric.specs.declared.{fabric_lines.FabricLine.FabricLine, fabric_scripts.FabricScript.FabricScript, replies.Replied.Replied, rules.TunnelRule.TunnelRule}
 
 -- ---- what a device is sent
 

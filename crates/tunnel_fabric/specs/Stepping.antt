@@ -2,25 +2,14 @@
 use Rattle.std.specs.Prelude.{◌≡◌, ◌≢◌, ℕ, Bool, true, false, List, [], ◌++◌, length, map, flat_map, take, slice_get, Option, Some, None, ◌<◌, ◌≤◌}
 use Rattle.std.specs.List.{AllByRecursion, enumerate_from}
 use Rattle.dcd_base.specs.declared.steps.Actor.{Actor}
-use Rattle.cci_codec.specs.declared.messages.Request.{Request}
-use Rattle.cci_codec.specs.declared.messages.Response.{Response}
-use Rattle.journal_core.specs.declared.acts.Act.{Act}
-use Rattle.journal_core.specs.declared.acts.Reply.{Reply}
-use Rattle.journal_core.specs.declared.entries.Entry.{Entry}
-use Rattle.journal_core.specs.Entries.{Each, fits}
-use Rattle.journal_core.specs.Merging.{Numbered}
-use Rattle.device_plain.specs.device_rules.specs.Legal.{Exclusive, Legal}
-use Rattle.device_plain.specs.isolation_laws.specs.Solo.{Isolated}
-use Rattle.device_plain.specs.Numbering.{IsCounted}
+use Rattle.cci_codec.specs.declared.messages.{Request.Request, Response.Response}
+use Rattle.journal_core.specs.{declared.acts.Act.Act, declared.acts.Reply.Reply, declared.entries.Entry.Entry, Entries.Each, Entries.fits, Merging.Numbered}
+use Rattle.device_plain.specs.{device_rules.specs.Legal.Exclusive, device_rules.specs.Legal.Legal, isolation_laws.specs.Solo.Isolated, Numbering.IsCounted, Devices.Enters, Devices.Plain}
 use Rattle.region_config.specs.Configurations.{Configuration}
-use Rattle.device_plain.specs.Devices.{Enters, Plain}
 use Rattle.report.specs.script_codec.specs.Covering.{pass_of}
-use Rattle.tunnel_fabric.specs.declared.fabric_lines.FabricLine.{FabricLine}
-use Rattle.tunnel_fabric.specs.declared.fabric_scripts.FabricScript.{FabricScript}
 use Rattle.tunnel_fabric.specs.Sending.{AreReplies, HasOnePass, IsShortReply, RanFabric, Sent, sent_by, sent_of, tunnel_of}
-use Rattle.tunnel_fabric.specs.declared.replies.Replied.{Replied}
-use Rattle.tunnel_fabric.specs.Tunnels.{inner_of, target_of, tunnel_rule, tunnel_wrapped}
-use Rattle.tunnel_fabric.specs.declared.opening.Opened.{Opened}
+use Rattle.tunnel_fabric.specs.{Tunnels.inner_of, Tunnels.target_of, Tunnels.tunnel_rule, Tunnels.tunnel_wrapped, declared.fabric_lines.FabricLine.FabricLine}
+use Rattle.tunnel_fabric.specs.declared.{fabric_scripts.FabricScript.FabricScript, opening.Opened.Opened, replies.Replied.Replied}
 
 -- the act fits the actor on this device, if there is one
 abbrev pub fits_device : Option Plain → Actor → Act → Bool

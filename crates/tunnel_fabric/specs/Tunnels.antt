@@ -2,12 +2,9 @@
 use Rattle.std.specs.Prelude.{ℕ, ◌==◌, not, nat_le, nat_lt, List, [], ◌∷◌, length, drop, Option, Some, None, if◌then◌else◌}
 use Rattle.std.specs.Int.{w16}
 use Rattle.dcd_base.specs.Layouts.{Field, Number, Raw, Reserved, number_at, spelling}
-use Rattle.cci_codec.specs.declared.faults.MessageFault.{MessageFault}
-use Rattle.cci_codec.specs.declared.messages.Request.{Request}
+use Rattle.cci_codec.specs.{Messages.message_fault, Messages.request_in, Messages.response_bytes, declared.faults.MessageFault.MessageFault, declared.messages.Request.Request}
 use Rattle.cci_codec.specs.declared.messages.Response.{Response}
-use Rattle.cci_codec.specs.Messages.{message_fault, request_in, response_bytes}
-use Rattle.dcd_codes.specs.declared.codes.Code.{Code}
-use Rattle.dcd_codes.specs.Rules.{number_of}
+use Rattle.dcd_codes.specs.{declared.codes.Code.Code, Rules.number_of}
 use Rattle.tunnel_fabric.specs.declared.rules.TunnelRule.{TunnelRule}
 
 -- Tunnel Management

@@ -1,8 +1,7 @@
 -- That a device has nothing from what the others are sent.
 use Rattle.std.specs.Prelude.{◌≡◌, ℕ, slice_get}
 use Rattle.device_plain.specs.Devices.{Plain}
-use Rattle.tunnel_fabric.specs.declared.fabric_scripts.FabricScript.{FabricScript}
-use Rattle.tunnel_fabric.specs.Sending.{DidAllSent, sent}
+use Rattle.tunnel_fabric.specs.{declared.fabric_scripts.FabricScript.FabricScript, Sending.DidAllSent, Sending.sent}
 
 -- Where both fabrics have the same configuration for the device and send it the same, its journals are equal.
 abbrev pub SameJournals : FabricScript → FabricScript → ℕ → Type 0

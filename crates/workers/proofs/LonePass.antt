@@ -1,17 +1,12 @@
 -- The lines of a phase that one pass has alone: the other passes stay as they were.
 use Rattle.std.proofs.Common.{◌≡◌, ℕ, zero, suc, ◌+◌, ◌<◌, List, [], ◌∷◌, length, get_or, set, refl, sym, subst, ◌∙◌, arith, IsTrue, OnOk}
-use Rattle.std.proofs.lemmas.Bool.{and_parts, eqb-true}
-use Rattle.std.specs.Prelude.{◌==◌, Bool, true, false, if◌then◌else◌}
-use Rattle.std.specs.List.{list_all}
-use Rattle.std.specs.declared.result.Result.{Result}
+use Rattle.std.{proofs.lemmas.Bool.and_parts, proofs.lemmas.Bool.eqb-true, specs.List.list_all}
+use Rattle.std.specs.{Prelude.◌==◌, Prelude.Bool, Prelude.true, Prelude.false, Prelude.if◌then◌else◌, declared.result.Result.Result}
 use Rattle.std.specs.declared.result.Result.TheVariants.{Ok, Err}
-use Rattle.script_codec.specs.declared.script_line.Line.{Line}
-use Rattle.script_codec.specs.Covering.{pass_of}
-use Rattle.workers.specs.Handling.{HandlerReads}
+use Rattle.script_codec.specs.{declared.script_line.Line.Line, Covering.pass_of}
+use Rattle.workers.{proofs.Growing.grown_none, proofs.Standing.same_itself, specs.Handling.HandlerReads}
 use Rattle.workers.specs.Phases.{Grown, Phase, is_no_others, phase, tasks}
 use Rattle.workers.specs.Serving.{EachPair, EachReady, EachServed, EachServedSome, HasServed, HasServedSome, IsReady}
-use Rattle.workers.proofs.Growing.{grown_none}
-use Rattle.workers.proofs.Standing.{same_itself}
 
 -- another pass has no task among them
 others_idle : (hosts lanes k j n : ℕ) (lines : List Line) → (j ≡ k → ⊥) → IsTrue (list_all (is_no_others hosts lanes k) lines) → tasks hosts lanes j n lines ≡ []

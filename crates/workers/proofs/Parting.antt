@@ -1,21 +1,13 @@
 -- The sweep that parts the lines, from the last to the first.
 use Rattle.std.proofs.Common.{◌≡◌, ◌⊎◌, inl, inr, ℕ, suc, ◌+◌, ◌*◌, ◌<◌, ◌≤◌, List, ◌∷◌, length, get_or, set, drop, replicate, refl, ap, sym, subst, ◌∙◌, arith, IsTrue}
-use Rattle.std.proofs.Math.Nat.{mul_comm}
-use Rattle.std.proofs.lemmas.Nat.{mul-add-lt}
-use Rattle.std.proofs.lemmas.List.{drop_more, get_or-replicate, length-replicate, length-set, get_or-set_same, get_or-set_other, get_or_default}
-use Rattle.std.proofs.lemmas.Option.{get_or_from_slice_get, slice_get_within}
-use Rattle.std.proofs.lemmas.Bool.{and_parts, both_ways, cases_eq, eqb-true, eq-eqb, ltb-true, ne_eqb}
+use Rattle.std.proofs.{Math.Nat.mul_comm, lemmas.Bool.and_parts, lemmas.Bool.both_ways, lemmas.Bool.cases_eq, lemmas.Bool.eqb-true, lemmas.Bool.eq-eqb, lemmas.Bool.ltb-true, lemmas.Bool.ne_eqb}
+use Rattle.std.proofs.lemmas.{List.drop_more, List.get_or-replicate, List.length-replicate, List.length-set, List.get_or-set_same, List.get_or-set_other, List.get_or_default, Nat.mul-add-lt}
+use Rattle.std.{proofs.lemmas.Option.get_or_from_slice_get, proofs.lemmas.Option.slice_get_within, specs.List.list_all}
 use Rattle.std.specs.Prelude.{Some, slice_get, slice_index, nat_lt, false, if◌then◌else◌}
 use Rattle.dcd_base.specs.declared.steps.Actor.{Actor}
-use Rattle.journal_core.specs.Entries.{fits}
-use Rattle.journal_core.specs.declared.acts.Act.{Act}
-use Rattle.script_codec.specs.declared.script_line.Line.{Line}
-use Rattle.script_codec.specs.Covering.{pass_of}
-use Rattle.script_codec.specs.Scripts.{is_sound_line}
-use Rattle.workers.specs.Phases.{is_line_of, tasks}
-use Rattle.std.specs.List.{list_all}
-use Rattle.workers.proofs.Standing.{all_at}
-use Rattle.workers.specs.Worklists.{IsPlaceOf, IsNextOf, ArePartedFrom}
+use Rattle.journal_core.specs.{Entries.fits, declared.acts.Act.Act}
+use Rattle.script_codec.specs.{declared.script_line.Line.Line, Covering.pass_of, Scripts.is_sound_line}
+use Rattle.workers.{specs.Phases.is_line_of, specs.Phases.tasks, proofs.Standing.all_at, specs.Worklists.IsPlaceOf, specs.Worklists.IsNextOf, specs.Worklists.ArePartedFrom}
 
 host_fits : (hosts h : ℕ) (act : Act) → IsTrue (fits hosts (Actor.Host h) act) → h < hosts
 host_fits hosts h (Act.Command q) is = ltb-true h hosts is

@@ -1,17 +1,12 @@
 -- Phases one after another.
 use Rattle.std.proofs.Common.{◌≡◌, ℕ, suc, ◌+◌, ◌<◌, ◌≤◌, List, [], ◌∷◌, ◌++◌, length, map, ap, sym, subst, ◌∙◌, arith, IsTrue}
-use Rattle.std.proofs.lemmas.Bool.{and_parts}
-use Rattle.std.proofs.lemmas.List.{append_assoc, length-append, map-append, nil_from_length}
-use Rattle.std.proofs.lemmas.List.Folds.{list_all-append}
-use Rattle.std.specs.Prelude.{Bool}
-use Rattle.std.specs.List.{list_all}
+use Rattle.std.proofs.lemmas.{Bool.and_parts, List.append_assoc, List.length-append, List.map-append, List.nil_from_length, List.Folds.list_all-append}
+use Rattle.std.specs.{List.list_all, Prelude.Bool}
 use Rattle.journal_core.specs.Merging.{Call}
 use Rattle.script_codec.specs.declared.script_line.Line.{Line}
-use Rattle.workers.specs.Handling.{HandlerReads}
-use Rattle.workers.specs.Phases.{GrownTo, Task, phase, phase_length, task_of, tasks}
+use Rattle.workers.proofs.{Growing.grown_more, Growing.grown_none, Growing.room_left, Growing.tasks_parts, Standing.same_itself, Standing.same_pass}
+use Rattle.workers.specs.{Handling.HandlerReads, Phases.GrownTo, Phases.Task, Phases.phase, Phases.phase_length, Phases.task_of, Phases.tasks}
 use Rattle.workers.specs.Serving.{EachPair, EachReady, EachServed, EachServedSome, IsReady, KeepsPass}
-use Rattle.workers.proofs.Growing.{grown_more, grown_none, room_left, tasks_parts}
-use Rattle.workers.proofs.Standing.{same_itself, same_pass}
 
 pub some_lines : (lines : List Line) → 0 < length lines → 0 < phase_length lines
 some_lines [] some = some

@@ -1,23 +1,13 @@
 -- Such a journal covers the script.
 use Rattle.std.proofs.Common.{◌≡◌, ◌⊎◌, inl, inr, ℕ, zero, suc, ◌+◌, ◌-◌, ◌*◌, ◌<◌, cond, List, [], ◌∷◌, ◌++◌, length, map, Option, Some, None, refl, sym, ap, ◌∙◌, subst, arith, append_assoc, length-append, zero-add, IsTrue}
 use Rattle.std.specs.Prelude.{◌==◌, Bool, true, false, count_by, if◌then◌else◌, slice_get, slice_index_or, AllPairs}
-use Rattle.std.specs.List.{AllByRecursion, filter, list_all}
-use Rattle.std.proofs.lemmas.Bool.{and_parts, cases_eq, eq-eqb, eqb-true, ne_eqb}
-use Rattle.std.proofs.lemmas.List.Elements.{All-from_recursion, recursion_from_All}
-use Rattle.std.proofs.lemmas.List.Kept.{AllPairs-cons}
-use Rattle.std.proofs.lemmas.List.Sums.{sum_by-append}
+use Rattle.std.proofs.lemmas.{Bool.and_parts, Bool.cases_eq, Bool.eq-eqb, Bool.eqb-true, Bool.ne_eqb, List.Elements.All-from_recursion, List.Elements.recursion_from_All, List.Kept.AllPairs-cons}
+use Rattle.std.{proofs.lemmas.List.Sums.sum_by-append, specs.List.AllByRecursion, specs.List.filter, specs.List.list_all}
 use Rattle.dcd_base.specs.declared.steps.Actor.{Actor}
-use Rattle.journal_core.specs.declared.acts.Act.{Act}
-use Rattle.journal_core.specs.declared.entries.Entry.{Entry}
-use Rattle.journal_core.specs.Merging.{call_of, calls_of}
-use Rattle.script_codec.specs.declared.script_line.Line.{Line}
-use Rattle.script_codec.specs.declared.scripts.Script.{Script}
-use Rattle.script_codec.specs.Covering.{is_line, pass_of, IsOfLine, Covers}
-use Rattle.script_codec.specs.Scripts.{is_sound_line}
-use Rattle.workers.specs.Phases.{Task, task_of, tasks}
-use Rattle.workers.specs.Served.{AllServed, passes_of}
-use Rattle.workers.proofs.Parting.{is_pass}
-use Rattle.script_codec.proofs.CoveringLaws.{placed}
+use Rattle.journal_core.specs.{declared.acts.Act.Act, declared.entries.Entry.Entry, Merging.call_of, Merging.calls_of}
+use Rattle.script_codec.{proofs.CoveringLaws.placed, specs.Covering.is_line, specs.Covering.pass_of, specs.Covering.IsOfLine, specs.Covering.Covers, specs.Scripts.is_sound_line}
+use Rattle.script_codec.specs.declared.{script_line.Line.Line, scripts.Script.Script}
+use Rattle.workers.{specs.Phases.Task, specs.Phases.task_of, specs.Phases.tasks, specs.Served.AllServed, specs.Served.passes_of, proofs.Parting.is_pass}
 
 -- ---- lists with or without one item
 keep_if : {X : Type 0} (P : X → Type 0) (b : Bool) (x : X) (xs : List X) → (b ≡ true → P x) → AllByRecursion P xs → AllByRecursion P (if b then x ∷ xs else xs)

@@ -1,16 +1,11 @@
 -- A pass stands at a place of its lines: it has done those before it.
 use Rattle.std.proofs.Common.{◌≡◌, ◌⊎◌, inl, inr, ℕ, suc, ◌+◌, ◌<◌, ◌≤◌, List, [], ◌∷◌, ◌++◌, length, get_or, drop, refl, ap, sym, subst, ◌∙◌, arith, IsTrue}
-use Rattle.std.proofs.lemmas.List.{length-append, drop_more, drop_all}
-use Rattle.std.proofs.lemmas.Bool.{both_ways, cases_Bool}
-use Rattle.std.proofs.lemmas.List.Folds.{list_all_at}
-use Rattle.std.specs.Prelude.{slice_index, Bool, true, false}
-use Rattle.std.specs.List.{list_all}
+use Rattle.std.proofs.lemmas.{Bool.both_ways, Bool.cases_Bool, List.length-append, List.drop_more, List.drop_all, List.Folds.list_all_at}
+use Rattle.std.specs.{List.list_all, Prelude.slice_index, Prelude.Bool, Prelude.true, Prelude.false}
 use Rattle.script_codec.specs.declared.script_line.Line.{Line}
-use Rattle.workers.specs.Handling.{HandlerReads}
+use Rattle.workers.{proofs.Growing.tasks_then, proofs.Growing.grown_more, proofs.Growing.grown_none, proofs.Growing.room_left, specs.Handling.HandlerReads}
 use Rattle.workers.specs.Phases.{GrownTo, Grown, is_line_of, is_no_others, phase, tasks}
-use Rattle.workers.specs.Serving.{IsReady, KeepsPass, HasServed, HasServedSome}
-use Rattle.workers.specs.Worklists.{IsNextOf, IsPlaceOf, AreLinked}
-use Rattle.workers.proofs.Growing.{tasks_then, grown_more, grown_none, room_left}
+use Rattle.workers.specs.{Serving.IsReady, Serving.KeepsPass, Serving.HasServed, Serving.HasServedSome, Worklists.IsNextOf, Worklists.IsPlaceOf, Worklists.AreLinked}
 
 -- each item of a list keeps what all keep
 pub all_at : {X : Type 0} (test : X → Bool) (xs : List X) (i : ℕ) (x : X) → i < length xs → x ≡ get_or xs i x → IsTrue (list_all test xs) → IsTrue (test x)

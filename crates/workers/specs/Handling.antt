@@ -1,10 +1,7 @@
 -- What a handler shows of its passes, and what a call adds.
 use Rattle.std.specs.Prelude.{◌≡◌, ℕ, List, [], ◌∷◌, ◌++◌}
-use Rattle.dcd_base.specs.declared.steps.Actor.{Actor}
-use Rattle.dcd_base.specs.declared.steps.Stamp.{Stamp}
-use Rattle.journal_core.specs.declared.acts.Act.{Act}
-use Rattle.journal_core.specs.declared.acts.Reply.{Reply}
-use Rattle.journal_core.specs.Merging.{Call}
+use Rattle.dcd_base.specs.declared.steps.{Actor.Actor, Stamp.Stamp}
+use Rattle.journal_core.specs.{declared.acts.Act.Act, declared.acts.Reply.Reply, Merging.Call}
 
 pub record HandlerReads (H P : Type 0) : Type 1 where
   -- how many hosts the device has

@@ -1,9 +1,7 @@
 -- The lines of a phase, and which of them are a pass's.
 use Rattle.std.specs.Prelude.{◌≡◌, ℕ, suc, ◌+◌, ◌==◌, Bool, true, false, List, [], ◌∷◌, ◌++◌, map, if◌then◌else◌}
-use Rattle.journal_core.specs.declared.acts.Act.{Act}
-use Rattle.journal_core.specs.Merging.{Call}
-use Rattle.script_codec.specs.declared.script_line.Line.{Line}
-use Rattle.script_codec.specs.Covering.{pass_of}
+use Rattle.journal_core.specs.{declared.acts.Act.Act, Merging.Call}
+use Rattle.script_codec.specs.{declared.script_line.Line.Line, Covering.pass_of}
 
 -- what a pass has to do: the number of a line, and its act
 pub record Task : Type 0 where

@@ -2,11 +2,8 @@
 use Rattle.std.specs.Prelude.{◌≡◌, ℕ, suc, ◌+◌, ◌≤◌, ◌^◌, List, [], ◌∷◌, length, IsTrue}
 use Rattle.dcd_base.specs.declared.steps.Actor.{Actor}
 use Rattle.journal_core.specs.declared.acts.Act.{Act}
-use Rattle.script_codec.specs.declared.script_line.Line.{Line}
-use Rattle.script_codec.specs.Covering.{pass_of}
-use Rattle.script_codec.specs.Scripts.{is_sound_line}
-use Rattle.workers.specs.Handling.{HandlerReads}
-use Rattle.workers.specs.Phases.{Phase, Task, tasks_in, GrownTo, Grown}
+use Rattle.script_codec.specs.{declared.script_line.Line.Line, Covering.pass_of, Scripts.is_sound_line}
+use Rattle.workers.specs.{Handling.HandlerReads, Phases.Phase, Phases.Task, Phases.tasks_in, Phases.GrownTo, Phases.Grown}
 
 -- it holds of each pass before and after, the first of which has this number
 abbrev pub EachPair : {P : Type 0} → (ℕ → P → P → Type 0) → ℕ → List P → List P → Type 0

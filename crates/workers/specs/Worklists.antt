@@ -2,13 +2,9 @@
 -- A place is the index of a line, from 0; the number of lines stands for no line.
 use Rattle.std.specs.Prelude.{◌≡◌, ℕ, suc, ◌+◌, ◌*◌, ◌≤◌, ◌<◌, ◌^◌, List, length, get_or, drop, slice_index, IsTrue}
 use Rattle.std.specs.List.{list_all}
-use Rattle.script_codec.specs.declared.script_line.Line.{Line}
-use Rattle.script_codec.specs.Scripts.{is_sound_line}
-use Rattle.workers.specs.declared.worklists.PhaseLines.{PhaseLines}
+use Rattle.script_codec.specs.{declared.script_line.Line.Line, Scripts.is_sound_line}
+use Rattle.workers.specs.{Handling.HandlerReads, Phases.Phase, Phases.is_line_of, Phases.phase, Phases.tasks, Serving.EachReady, declared.worklists.PhaseLines.PhaseLines}
 use Rattle.workers.specs.declared.worklists.Worklist.{Worklist}
-use Rattle.workers.specs.Handling.{HandlerReads}
-use Rattle.workers.specs.Phases.{Phase, is_line_of, phase, tasks}
-use Rattle.workers.specs.Serving.{EachReady}
 
 module _ (hosts lanes : ℕ) (lines : List Line) where
   -- the place is a line of the pass, or none

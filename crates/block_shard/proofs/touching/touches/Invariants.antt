@@ -1,5 +1,4 @@
-use Rattle.std.proofs.Common.{◌≡◌, length}
-use Rattle.std.specs.List.{list_any}
+use Rattle.std.{proofs.Common.◌≡◌, proofs.Common.length, specs.List.list_any}
 use Rattle.shard_laws.specs.Belonging.{touches_own}
 use Rattle.block_shard.proofs.touching.touches.Given as goal
 

@@ -1,7 +1,6 @@
 use Rattle.std.proofs.Common.{rules, ◌≡◌, ◌∙◌, slice_index, None, sym, arith}
-use Rattle.cci_codec.specs.Messages.{message_fault, request_in}
+use Rattle.cci_codec.{proofs.Reading.no_fault_read, proofs.Reading.request_reads, proofs.Reading.request_read, specs.Messages.message_fault, specs.Messages.request_in}
 use Rattle.cci_codec.specs.declared.messages.Request.{Request}
-use Rattle.cci_codec.proofs.Reading.{no_fault_read, request_reads, request_read}
 use Rattle.cci_codec.proofs.requests.decode.Goals as goal
 
 pub returns-in_err-sound-clause-only : goal.returns-in_err-sound-clause-only

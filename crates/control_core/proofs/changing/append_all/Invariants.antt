@@ -1,5 +1,4 @@
-use Rattle.std.proofs.Common.{take}
-use Rattle.std.specs.Prelude.{All}
+use Rattle.std.{proofs.Common.take, specs.Prelude.All}
 use Rattle.extent_list.specs.media_map.specs.region_config.specs.Granules.{granule_total}
 use Rattle.device_commands.specs.device_rules.specs.ChangedRuns.{IsSoundChange, LiesIn}
 use Rattle.control_core.specs.PutChanges.{ArePut, IsRegionOrNone, NameNoOthers}

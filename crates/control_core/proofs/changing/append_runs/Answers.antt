@@ -1,9 +1,7 @@
 use Rattle.std.proofs.Common.{◌≡◌, ℕ, ◌+◌, ◌<◌, ◌≤◌, ◌∙◌, ap, arith, get_or}
 use Rattle.cci_codec.specs.dcd_base.specs.declared.media.Run.{Run}
 use Rattle.extent_list.specs.media_map.specs.region_config.specs.Granules.{granule_total}
-use Rattle.control_core.specs.PutChanges.{change_to}
-use Rattle.control_core.proofs.Changed.{added_more, inside_more}
-use Rattle.control_core.proofs.SoundChanges.{sound_more}
+use Rattle.control_core.{specs.PutChanges.change_to, proofs.Changed.added_more, proofs.Changed.inside_more, proofs.SoundChanges.sound_more}
 use Rattle.control_core.proofs.changing.append_runs.Goals as goal
 
 pub loop-at-preserved : goal.loop-at-preserved

@@ -1,8 +1,7 @@
 use Rattle.std.proofs.Common.{[], ◌∷◌, ◌++◌, ◌≡◌, List, take, ap, sym, subst, ◌∙◌, arith, length}
 use Rattle.std.proofs.lemmas.List.{take_more}
 use Rattle.journal_core.specs.declared.outcome.Effect.{Effect}
-use Rattle.control_core.specs.PutChanges.{ArePut}
-use Rattle.control_core.proofs.Changed.{put_none}
+use Rattle.control_core.{specs.PutChanges.ArePut, proofs.Changed.put_none}
 use Rattle.control_core.proofs.changing.quiet_front.Goals as goal
 
 pub loop-i-preserved : goal.loop-i-preserved

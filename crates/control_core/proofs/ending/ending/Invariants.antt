@@ -1,5 +1,4 @@
-use Rattle.std.proofs.Common.{◌≡◌, take}
-use Rattle.std.specs.List.{list_any}
+use Rattle.std.{proofs.Common.◌≡◌, proofs.Common.take, specs.List.list_any}
 use Rattle.extent_list.specs.ExtentLists.{has_extent_of}
 use Rattle.device_commands.specs.device_rules.specs.TagTable.{ending}
 use Rattle.control_core.proofs.ending.ending.Given as goal

@@ -1,12 +1,7 @@
-use Rattle.std.proofs.Common.{◌∙◌, ◌++◌, ap, map, subst, sym}
-use Rattle.std.proofs.lemmas.Result.{on_ok_weaker}
-use Rattle.journal_core.specs.Entries.{effects}
-use Rattle.journal_core.specs.declared.outcome.Effect.{Effect}
-use Rattle.device_commands.specs.Drafts.{HasExtentsOf}
-use Rattle.device_commands.specs.device_rules.specs.Views.{view_after, view_of}
-use Rattle.control_core.specs.Recording.{after_changes, ending_with, events_by, records_told}
-use Rattle.control_core.proofs.Doing.{after_extents}
-use Rattle.control_core.proofs.Recorded.{none_recorded}
+use Rattle.std.proofs.{Common.◌∙◌, Common.◌++◌, Common.ap, Common.map, Common.subst, Common.sym, lemmas.Result.on_ok_weaker}
+use Rattle.journal_core.specs.{Entries.effects, declared.outcome.Effect.Effect}
+use Rattle.device_commands.specs.{Drafts.HasExtentsOf, device_rules.specs.Views.view_after, device_rules.specs.Views.view_of}
+use Rattle.control_core.{specs.Recording.after_changes, specs.Recording.ending_with, specs.Recording.events_by, specs.Recording.records_told, proofs.Doing.after_extents, proofs.Recorded.none_recorded}
 use Rattle.control_core.proofs.host_steps.append_ends_and_records.Goals as goal
 
 pub returns-then-tells_nothing-clause-effects : goal.returns-then-tells_nothing-clause-effects

@@ -1,21 +1,10 @@
-use Rattle.std.proofs.Common.{List, length, subst, sym}
-use Rattle.std.specs.declared.result.Result.{Result}
-use Rattle.std.proofs.lemmas.Result.{IfOk-weaker}
+use Rattle.std.{proofs.Common.List, proofs.Common.length, proofs.Common.subst, proofs.Common.sym, specs.declared.result.Result.Result, proofs.lemmas.Result.IfOk-weaker}
 use Rattle.extent_list.specs.dcd_codes.specs.declared.refusals.Refusal.{Refusal}
-use Rattle.device_commands.specs.declared.draft.Draft.{Draft}
-use Rattle.device_commands.specs.device_rules.specs.Answers.{host_outcome}
-use Rattle.device_commands.specs.device_rules.specs.Views.{view_after, view_of}
-use Rattle.manager_commands.specs.device_state.specs.StateAfter.{part_of}
-use Rattle.manager_commands.specs.device_state.specs.EnteredLists.{Fits, lists_of}
+use Rattle.device_commands.specs.{declared.draft.Draft.Draft, device_rules.specs.Answers.host_outcome, device_rules.specs.Views.view_after, device_rules.specs.Views.view_of}
+use Rattle.manager_commands.specs.device_state.specs.{StateAfter.part_of, EnteredLists.Fits, EnteredLists.lists_of}
 use Rattle.journal_core.specs.declared.outcome.Effect.{Effect}
-use Rattle.control_core.specs.Doing.{Does, Drafted}
-use Rattle.control_core.specs.Recording.{events_by}
-use Rattle.control_core.specs.declared.decided.Decided.{Decided}
-use Rattle.control_core.specs.Fitting.{PartFits}
-use Rattle.control_core.proofs.Decisions.{decided_host, host_known, records_known}
-use Rattle.control_core.proofs.FitChanges.{host_changes_fit}
-use Rattle.control_core.proofs.HostOutcomes.{host_of}
-use Rattle.control_core.proofs.Shortness.{short_host}
+use Rattle.control_core.proofs.{Decisions.decided_host, Decisions.host_known, Decisions.records_known, FitChanges.host_changes_fit, HostOutcomes.host_of, Shortness.short_host}
+use Rattle.control_core.specs.{Doing.Does, Doing.Drafted, Fitting.PartFits, Recording.events_by, declared.decided.Decided.Decided}
 use Rattle.control_core.proofs.host_steps.host_decided.Goals as goal
 
 pub enacted-requires-clause-known : goal.enacted-requires-clause-known

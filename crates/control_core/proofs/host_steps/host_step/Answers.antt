@@ -1,7 +1,6 @@
 use Rattle.std.proofs.Common.{◌≤◌, subst, sym}
 use Rattle.extent_list.specs.HostLists.{extent_total}
-use Rattle.manager_commands.proofs.FewExtents.{few_extents}
-use Rattle.manager_commands.specs.device_state.specs.declared.parts.HostPart.{HostPart}
+use Rattle.manager_commands.{proofs.FewExtents.few_extents, specs.device_state.specs.declared.parts.HostPart.HostPart}
 use Rattle.control_core.proofs.host_steps.host_step.Goals as goal
 
 pub host_draft-drafted-requires-clause-few : goal.host_draft-drafted-requires-clause-few

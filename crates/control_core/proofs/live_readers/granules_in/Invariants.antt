@@ -1,5 +1,4 @@
-use Rattle.std.proofs.Common.{◌≡◌, ◌≤◌, ◌*◌, take}
-use Rattle.std.specs.Prelude.{sum_by}
+use Rattle.std.{proofs.Common.◌≡◌, proofs.Common.◌≤◌, proofs.Common.◌*◌, proofs.Common.take, specs.Prelude.sum_by}
 use Rattle.extent_list.specs.media_map.specs.Places.{run_of}
 use Rattle.control_core.proofs.live_readers.granules_in.Given as goal
 

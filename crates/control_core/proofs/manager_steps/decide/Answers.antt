@@ -1,6 +1,5 @@
 use Rattle.journal_core.specs.Entries.{effects}
-use Rattle.device_commands.specs.device_rules.specs.Answers.{manager_outcome}
-use Rattle.device_commands.specs.device_rules.specs.Views.{view_of}
+use Rattle.device_commands.specs.device_rules.specs.{Answers.manager_outcome, Views.view_of}
 use Rattle.manager_commands.specs.ManagerMessages.{DraftsFor}
 use Rattle.control_core.proofs.Managed.{manages_err}
 use Rattle.control_core.proofs.manager_steps.decide.Goals as goal

@@ -1,17 +1,10 @@
-use Rattle.std.proofs.Common.{◌≡◌, ◌∙◌, IfSome, List, None, subst, sym}
-use Rattle.std.proofs.lemmas.Result.{IfOk-weaker}
-use Rattle.journal_core.specs.Entries.{effects}
-use Rattle.journal_core.specs.declared.outcome.Effect.{Effect}
-use Rattle.device_commands.specs.device_rules.specs.Answers.{manager_outcome}
-use Rattle.device_commands.specs.device_rules.specs.Views.{view_of}
+use Rattle.std.proofs.{Common.◌≡◌, Common.◌∙◌, Common.IfSome, Common.List, Common.None, Common.subst, Common.sym, lemmas.Result.IfOk-weaker}
+use Rattle.journal_core.specs.{Entries.effects, declared.outcome.Effect.Effect}
+use Rattle.device_commands.specs.device_rules.specs.{Answers.manager_outcome, Views.view_of}
 use Rattle.manager_commands.specs.device_state.specs.EnteredLists.{Fits, lists_of}
-use Rattle.control_core.specs.Doing.{Does}
-use Rattle.control_core.specs.Managing.{EntersDraft, changed_host}
+use Rattle.control_core.proofs.{FitChanges.manager_changes_fit, Managed.decided_manager, Managed.quiet_drafts, Managed.quiet_ended, Managed.quiet_hosts, Managed.quiet_log_records}
+use Rattle.control_core.{proofs.ManagerOutcomes.OfHost, proofs.ManagerOutcomes.of_host, proofs.Shortness.short_manager, specs.Doing.Does, specs.Managing.EntersDraft, specs.Managing.changed_host}
 use Rattle.control_core.specs.declared.decided.Decided.{Decided}
-use Rattle.control_core.proofs.FitChanges.{manager_changes_fit}
-use Rattle.control_core.proofs.Managed.{decided_manager, quiet_drafts, quiet_ended, quiet_hosts, quiet_log_records}
-use Rattle.control_core.proofs.ManagerOutcomes.{OfHost, of_host}
-use Rattle.control_core.proofs.Shortness.{short_manager}
 use Rattle.control_core.proofs.manager_steps.enacted_by.Goals as goal
 
 pub enacted-requires-clause-host : goal.enacted-requires-clause-host

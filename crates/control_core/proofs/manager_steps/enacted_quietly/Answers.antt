@@ -1,8 +1,7 @@
 use Rattle.std.proofs.Common.{◌++◌, ◌∙◌, ap}
 use Rattle.journal_core.specs.Entries.{effects}
 use Rattle.device_commands.specs.device_rules.specs.Views.{view_of}
-use Rattle.control_core.specs.Recording.{events_of, records_told}
-use Rattle.control_core.proofs.Managed.{entered_done}
+use Rattle.control_core.{specs.Recording.events_of, specs.Recording.records_told, proofs.Managed.entered_done}
 use Rattle.control_core.proofs.manager_steps.enacted_quietly.Goals as goal
 
 pub returns : goal.returns

@@ -1,13 +1,9 @@
-use Rattle.std.proofs.Common.{◌≡◌, [], refl, rules, subst, sym}
+use Rattle.std.{proofs.Common.◌≡◌, proofs.Common.[], proofs.Common.refl, proofs.Common.rules, proofs.Common.subst, proofs.Common.sym, specs.declared.result.Result.Result}
+use Rattle.std.specs.declared.result.Result.TheVariants.{Err}
 use Rattle.cci_codec.specs.dcd_base.specs.declared.steps.Actor.{Actor}
 use Rattle.journal_core.specs.declared.acts.Act.{Act}
-use Rattle.std.specs.declared.result.Result.{Result}
-use Rattle.std.specs.declared.result.Result.TheVariants.{Err}
 use Rattle.extent_list.specs.dcd_codes.specs.declared.refusals.Refusal.{Refusal}
-use Rattle.control_core.specs.Deciding.{IsDecidedBy}
-use Rattle.control_core.specs.Managing.{Manages}
-use Rattle.control_core.specs.declared.decided.Decided.{Decided}
-use Rattle.control_core.proofs.Managed.{refused_manager}
+use Rattle.control_core.{specs.Deciding.IsDecidedBy, specs.Managing.Manages, specs.declared.decided.Decided.Decided, proofs.Managed.refused_manager}
 use Rattle.control_core.proofs.manager_steps.manager_decided.Goals as goal
 
 pub returns-in-Err-Broken : goal.returns-in-Err-Broken

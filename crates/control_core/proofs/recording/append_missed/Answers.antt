@@ -1,7 +1,6 @@
 use Rattle.std.proofs.Common.{◌++◌, ◌+◌, List, ap, arith, drop, ◌∙◌}
 use Rattle.journal_core.specs.declared.outcome.Effect.{Effect}
-use Rattle.control_core.specs.Recording.{records_by}
-use Rattle.control_core.proofs.Recorded.{missed_more, no_event}
+use Rattle.control_core.{specs.Recording.records_by, proofs.Recorded.missed_more, proofs.Recorded.no_event}
 use Rattle.control_core.proofs.recording.append_missed.Goals as goal
 
 pub loop-preserved : goal.loop-preserved

@@ -2,8 +2,7 @@ use Rattle.std.proofs.Common.{◌≡◌, ◌≤◌, ◌⊎◌, ◌++◌, ◌-◌
 use Rattle.std.proofs.lemmas.Bool.{cases_lt}
 use Rattle.event_records.specs.declared.events.Event.{Event}
 use Rattle.journal_core.specs.declared.outcome.Effect.{Effect}
-use Rattle.control_core.specs.Recording.{records_by}
-use Rattle.control_core.proofs.Recorded.{records_split}
+use Rattle.control_core.{specs.Recording.records_by, proofs.Recorded.records_split}
 use Rattle.control_core.proofs.recording.append_records.Goals as goal
 
 pub returns : goal.returns

@@ -1,5 +1,4 @@
-use Rattle.std.proofs.Common.{◌<◌, ◌∙◌, ap, subst}
-use Rattle.std.proofs.lemmas.Result.{on_ok_weaker}
+use Rattle.std.proofs.{Common.◌<◌, Common.◌∙◌, Common.ap, Common.subst, lemmas.Result.on_ok_weaker}
 use Rattle.extent_list.specs.HostLists.{Lists}
 use Rattle.device_commands.specs.device_rules.specs.Views.{view_of}
 use Rattle.manager_commands.specs.device_state.specs.declared.parts.HostPart.{HostPart}

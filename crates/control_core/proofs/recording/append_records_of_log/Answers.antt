@@ -1,10 +1,8 @@
-use Rattle.std.proofs.Common.{◌++◌, ◌-◌, ◌∙◌, ap, length, subst, sym}
-use Rattle.std.proofs.lemmas.Result.{on_ok_weaker}
+use Rattle.std.proofs.{Common.◌++◌, Common.◌-◌, Common.◌∙◌, Common.ap, Common.length, Common.subst, Common.sym, lemmas.Result.on_ok_weaker}
 use Rattle.event_log.specs.Logs.{IsLogOf}
 use Rattle.journal_core.specs.Entries.{effects}
 use Rattle.device_commands.specs.device_rules.specs.Logs.{log_of}
-use Rattle.control_core.specs.Recording.{events_by, records_by}
-use Rattle.control_core.proofs.Recorded.{entered_by, kept_log}
+use Rattle.control_core.{specs.Recording.events_by, specs.Recording.records_by, proofs.Recorded.entered_by, proofs.Recorded.kept_log}
 use Rattle.control_core.proofs.recording.append_records_of_log.Goals as goal
 
 pub returns : goal.returns

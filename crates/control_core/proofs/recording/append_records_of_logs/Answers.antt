@@ -1,10 +1,8 @@
 use Rattle.std.proofs.Common.{◌++◌, ◌<◌, ◌∙◌, ap, append_assoc, arith, get_or, length, sym, take}
 use Rattle.std.proofs.lemmas.List.{take_all}
 use Rattle.journal_core.specs.Entries.{effects}
-use Rattle.device_commands.specs.device_rules.specs.Logs.{log_of}
-use Rattle.device_commands.specs.device_rules.specs.Outcomes.{entered_all}
-use Rattle.control_core.specs.Recording.{events_by, records_told}
-use Rattle.control_core.proofs.Recorded.{told_more}
+use Rattle.device_commands.specs.device_rules.specs.{Logs.log_of, Outcomes.entered_all}
+use Rattle.control_core.{specs.Recording.events_by, specs.Recording.records_told, proofs.Recorded.told_more}
 use Rattle.control_core.proofs.recording.append_records_of_logs.Goals as goal
 
 pub loop-i-preserved : goal.loop-i-preserved

@@ -1,10 +1,8 @@
 use Rattle.std.proofs.Common.{◌≡◌, List, ◌++◌, take}
-use Rattle.journal_core.specs.Entries.{effects}
-use Rattle.journal_core.specs.declared.entries.Entry.{Entry}
+use Rattle.journal_core.specs.{Entries.effects, declared.entries.Entry.Entry}
 use Rattle.extent_list.specs.media_map.specs.region_config.specs.Configurations.{Configuration}
 use Rattle.manager_commands.specs.device_state.specs.StateAfter.{IsStateAfter}
-use Rattle.device_commands.specs.Drafts.{HasExtentsOf}
-use Rattle.device_commands.specs.device_rules.specs.Views.{View}
+use Rattle.device_commands.specs.{Drafts.HasExtentsOf, device_rules.specs.Views.View}
 use Rattle.control_core.specs.Recording.{events_by, records_told}
 use Rattle.control_core.proofs.recording.append_records_of_logs.Given as goal
 

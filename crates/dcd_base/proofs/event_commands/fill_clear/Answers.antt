@@ -1,6 +1,5 @@
 use Rattle.std.proofs.Common.{◌+◌, ◌*◌, arith, length, rules}
-use Rattle.dcd_base.proofs.EventCommands.{clear_fits, clear_spelled}
-use Rattle.dcd_base.proofs.Filling.{filled}
+use Rattle.dcd_base.proofs.{EventCommands.clear_fits, EventCommands.clear_spelled, Filling.filled}
 use Rattle.dcd_base.proofs.event_commands.fill_clear.Goals as goal
 
 pub returns-clause-spelled : goal.returns-clause-spelled

@@ -1,7 +1,5 @@
-use Rattle.std.proofs.Common.{◌≡◌, ◌+◌, ◌*◌, ◌++◌, flat_map, take}
-use Rattle.std.specs.List.{AllByRecursion}
-use Rattle.dcd_base.specs.EventCommands.{FitsHandle}
-use Rattle.dcd_base.specs.Layouts.{u16_bytes}
+use Rattle.std.{proofs.Common.◌≡◌, proofs.Common.◌+◌, proofs.Common.◌*◌, proofs.Common.◌++◌, proofs.Common.flat_map, proofs.Common.take, specs.List.AllByRecursion}
+use Rattle.dcd_base.specs.{EventCommands.FitsHandle, Layouts.u16_bytes}
 use Rattle.dcd_base.proofs.event_commands.put_handles.Given as goal
 
 abbrev pub invariant-loop-handle : goal.invariant-loop-handle

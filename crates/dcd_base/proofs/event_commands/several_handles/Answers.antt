@@ -1,5 +1,4 @@
-use Rattle.std.proofs.Common.{arith}
-use Rattle.std.specs.Int.{from_le_bytes, w16}
+use Rattle.std.{proofs.Common.arith, specs.Int.from_le_bytes, specs.Int.w16}
 use Rattle.dcd_base.proofs.Pieces.{pieces-goes_on}
 use Rattle.dcd_base.proofs.event_commands.several_handles.Goals as goal
 

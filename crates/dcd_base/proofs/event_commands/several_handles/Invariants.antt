@@ -1,6 +1,5 @@
-use Rattle.std.proofs.Common.{◌≡◌, ◌++◌, ◌*◌, ◌-◌, ◌≤◌, length, map}
+use Rattle.std.{proofs.Common.◌≡◌, proofs.Common.◌++◌, proofs.Common.◌*◌, proofs.Common.◌-◌, proofs.Common.◌≤◌, proofs.Common.length, proofs.Common.map, specs.Int.from_le_bytes, specs.Int.w16}
 use Rattle.dcd_base.specs.Layouts.{pieces}
-use Rattle.std.specs.Int.{from_le_bytes, w16}
 use Rattle.dcd_base.proofs.event_commands.several_handles.Given as goal
 
 abbrev pub invariant-loop : goal.invariant-loop

@@ -1,6 +1,5 @@
 use Rattle.std.proofs.Common.{arith}
-use Rattle.dcd_base.specs.Extents.{whole_extent}
-use Rattle.dcd_base.proofs.Pieces.{pieces-goes_on}
+use Rattle.dcd_base.{specs.Extents.whole_extent, proofs.Pieces.pieces-goes_on}
 use Rattle.dcd_base.proofs.extents.extents_of.Goals as goal
 
 pub loop-preserved : goal.loop-preserved

@@ -1,6 +1,5 @@
 use Rattle.std.proofs.Common.{◌≡◌, ◌++◌, ◌*◌, ◌-◌, ◌≤◌, length, map}
-use Rattle.dcd_base.specs.Layouts.{pieces}
-use Rattle.dcd_base.specs.Extents.{whole_extent}
+use Rattle.dcd_base.specs.{Layouts.pieces, Extents.whole_extent}
 use Rattle.dcd_base.proofs.extents.extents_of.Given as goal
 
 abbrev pub invariant-loop : goal.invariant-loop

@@ -1,7 +1,5 @@
 use Rattle.std.proofs.Common.{◌++◌, replicate, rules}
-use Rattle.dcd_base.specs.Extents.{extent_bytes}
-use Rattle.dcd_base.specs.Layouts.{u16_bytes, u64_bytes}
-use Rattle.dcd_base.proofs.Filling.{around, filled}
+use Rattle.dcd_base.{specs.Extents.extent_bytes, specs.Layouts.u16_bytes, specs.Layouts.u64_bytes, proofs.Filling.around, proofs.Filling.filled}
 use Rattle.dcd_base.proofs.extents.fill_extent.Goals as goal
 
 pub returns-clause-bytes : goal.returns-clause-bytes

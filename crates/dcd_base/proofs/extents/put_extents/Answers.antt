@@ -1,6 +1,4 @@
-use Rattle.std.proofs.Common.{◌∙◌, ap, arith, drop, rules, sym}
-use Rattle.std.proofs.lemmas.Grind.{common_steps}
-use Rattle.std.proofs.lemmas.List.{drop-drop}
+use Rattle.std.proofs.{Common.◌∙◌, Common.ap, Common.arith, Common.drop, Common.rules, Common.sym, lemmas.Grind.common_steps, lemmas.List.drop-drop}
 use Rattle.dcd_base.proofs.extents.put_extents.Goals as goal
 
 pub loop-extent-preserved : goal.loop-extent-preserved

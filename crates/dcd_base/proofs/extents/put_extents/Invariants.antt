@@ -1,5 +1,4 @@
-use Rattle.std.proofs.Common.{◌≡◌, ◌+◌, ◌*◌, ◌++◌, drop, flat_map, take}
-use Rattle.std.specs.List.{AllByRecursion}
+use Rattle.std.{proofs.Common.◌≡◌, proofs.Common.◌+◌, proofs.Common.◌*◌, proofs.Common.◌++◌, proofs.Common.drop, proofs.Common.flat_map, proofs.Common.take, specs.List.AllByRecursion}
 use Rattle.dcd_base.specs.Extents.{extent_bytes, FitsExtent}
 use Rattle.dcd_base.proofs.extents.put_extents.Given as goal
 

@@ -1,5 +1,4 @@
-use Rattle.std.proofs.Common.{◌≡◌, ◌^◌, ◌%◌, take}
-use Rattle.std.specs.Prelude.{sum_by}
+use Rattle.std.{proofs.Common.◌≡◌, proofs.Common.◌^◌, proofs.Common.◌%◌, proofs.Common.take, specs.Prelude.sum_by}
 use Rattle.dcd_c.proofs.asking.bytes_of.Given as goal
 
 abbrev pub invariant-loop-i : goal.invariant-loop-i

@@ -1,8 +1,6 @@
 use Rattle.std.proofs.Common.{◌+◌, ◌++◌, ap, arith, drop, length, rules, sym, ◌∙◌}
 use Rattle.std.proofs.lemmas.List.{length-append}
-use Rattle.dcd_c.specs.Changes.{told_by}
-use Rattle.dcd_c.proofs.Filling.{drop_on}
-use Rattle.dcd_c.proofs.RunSteps.{runs_fit, runs_more, runs_none}
+use Rattle.dcd_c.{specs.Changes.told_by, proofs.Filling.drop_on, proofs.RunSteps.runs_fit, proofs.RunSteps.runs_more, proofs.RunSteps.runs_none}
 use Rattle.dcd_c.proofs.changes.put_runs.Goals as goal
 
 pub put_told-at-requires : goal.put_told-at-requires

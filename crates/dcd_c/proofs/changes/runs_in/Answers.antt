@@ -1,7 +1,6 @@
 use Rattle.std.proofs.Common.{◌≡◌, ◌+◌, ap, arith, length, rules, subst, sym, ◌∙◌}
 use Rattle.std.proofs.lemmas.List.{length-append}
-use Rattle.dcd_c.specs.Changes.{told_by}
-use Rattle.dcd_c.proofs.RunSteps.{runs_more, runs_none}
+use Rattle.dcd_c.{specs.Changes.told_by, proofs.RunSteps.runs_more, proofs.RunSteps.runs_none}
 use Rattle.dcd_c.proofs.changes.runs_in.Goals as goal
 
 pub loop-i-init : goal.loop-i-init

@@ -1,5 +1,4 @@
-use Rattle.std.proofs.Common.{ap, bit_or}
-use Rattle.std.proofs.lemmas.Nat.{one_shl}
+use Rattle.std.proofs.{Common.ap, Common.bit_or, lemmas.Nat.one_shl}
 use Rattle.dcd_c.proofs.changes.with_bit.Goals as goal
 
 pub returns : goal.returns

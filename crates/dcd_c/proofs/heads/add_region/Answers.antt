@@ -1,5 +1,4 @@
-use Rattle.std.proofs.Common.{◌≡◌, List, ℕ, subst}
-use Rattle.std.specs.Prelude.{OnOk}
+use Rattle.std.{proofs.Common.◌≡◌, proofs.Common.List, proofs.Common.ℕ, proofs.Common.subst, specs.Prelude.OnOk}
 use Rattle.dcd_c.proofs.Spelled.{region_added}
 use Rattle.dcd_c.proofs.heads.add_region.Goals as goal
 

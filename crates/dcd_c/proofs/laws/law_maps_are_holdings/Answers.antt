@@ -1,7 +1,6 @@
 use Rattle.std.proofs.Common.{[], sym, ap, ◌∙◌}
 use Rattle.journal_core.specs.Holders.{holds}
-use Rattle.dcd_c.specs.Maps.{all_changed}
-use Rattle.dcd_c.proofs.MapSteps.{changed_on, maps_hold}
+use Rattle.dcd_c.{specs.Maps.all_changed, proofs.MapSteps.changed_on, proofs.MapSteps.maps_hold}
 use Rattle.dcd_c.proofs.laws.law_maps_are_holdings.Goals as goal
 
 pub returns : goal.returns

@@ -1,9 +1,7 @@
 use Rattle.std.proofs.Common.{◌+◌, ◌*◌, ◌++◌, ◌∙◌, ap, drop, flat_map, length, refl, rules, sym, take}
 use Rattle.std.specs.List.{range_with_len}
 use Rattle.region_config.specs.Configurations.{Configuration}
-use Rattle.dcd_c.specs.Lists.{host_bases}
-use Rattle.dcd_c.proofs.BaseSteps.{base_next, bases_count, bases_more}
-use Rattle.dcd_c.proofs.Filling.{drop_on}
+use Rattle.dcd_c.{specs.Lists.host_bases, proofs.BaseSteps.base_next, proofs.BaseSteps.bases_count, proofs.BaseSteps.bases_more, proofs.Filling.drop_on}
 use Rattle.dcd_c.proofs.lists.bases_of.Goals as goal
 
 pub returns-then-count-room : goal.returns-then-count-room

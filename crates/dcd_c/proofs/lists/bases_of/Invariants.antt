@@ -1,5 +1,4 @@
-use Rattle.std.proofs.Common.{◌≡◌, ◌*◌, drop, flat_map, length, take}
-use Rattle.std.specs.List.{range_with_len}
+use Rattle.std.{proofs.Common.◌≡◌, proofs.Common.◌*◌, proofs.Common.drop, proofs.Common.flat_map, proofs.Common.length, proofs.Common.take, specs.List.range_with_len}
 use Rattle.dcd_c.specs.Lists.{host_bases}
 use Rattle.dcd_c.proofs.lists.bases_of.Given as goal
 

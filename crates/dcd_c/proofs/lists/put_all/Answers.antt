@@ -1,7 +1,6 @@
 use Rattle.std.proofs.Common.{◌*◌, ◌++◌, ◌∙◌, ap, drop, rules, sym, take}
 use Rattle.event_records.specs.Records.{record_bytes}
-use Rattle.dcd_c.proofs.Filling.{drop_on, flat_more}
-use Rattle.dcd_c.proofs.BaseSteps.{base_next}
+use Rattle.dcd_c.proofs.{Filling.drop_on, Filling.flat_more, BaseSteps.base_next}
 use Rattle.dcd_c.proofs.lists.put_all.Goals as goal
 
 pub loop-i-preserved : goal.loop-i-preserved

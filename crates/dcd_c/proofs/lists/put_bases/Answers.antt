@@ -1,5 +1,4 @@
-use Rattle.std.proofs.Common.{◌+◌, ◌∙◌, ap, arith, drop, rules, sym, take}
-use Rattle.std.proofs.lemmas.List.{length-set}
+use Rattle.std.proofs.{Common.◌+◌, Common.◌∙◌, Common.ap, Common.arith, Common.drop, Common.rules, Common.sym, Common.take, lemmas.List.length-set}
 use Rattle.region_config.specs.Granules.{base_of}
 use Rattle.dcd_c.proofs.Filling.{put_behind, put_numbered}
 use Rattle.dcd_c.proofs.lists.put_bases.Goals as goal

@@ -1,5 +1,4 @@
-use Rattle.std.proofs.Common.{◌≡◌, ◌+◌, ◌++◌, drop, length, map, take}
-use Rattle.std.specs.List.{range_with_len}
+use Rattle.std.{proofs.Common.◌≡◌, proofs.Common.◌+◌, proofs.Common.◌++◌, proofs.Common.drop, proofs.Common.length, proofs.Common.map, proofs.Common.take, specs.List.range_with_len}
 use Rattle.region_config.specs.Granules.{base_of}
 use Rattle.dcd_c.proofs.lists.put_bases.Given as goal
 

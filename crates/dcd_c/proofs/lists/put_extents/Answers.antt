@@ -1,7 +1,5 @@
-use Rattle.std.proofs.Common.{◌+◌, ◌∙◌, arith, rules, take}
-use Rattle.std.proofs.lemmas.List.{length-set}
-use Rattle.dcd_c.specs.Lists.{extent_told}
-use Rattle.dcd_c.proofs.Filling.{put_behind, put_mapped}
+use Rattle.std.proofs.{Common.◌+◌, Common.◌∙◌, Common.arith, Common.rules, Common.take, lemmas.List.length-set}
+use Rattle.dcd_c.{specs.Lists.extent_told, proofs.Filling.put_behind, proofs.Filling.put_mapped}
 use Rattle.dcd_c.proofs.lists.put_extents.Goals as goal
 
 pub loop-i-preserved : goal.loop-i-preserved

@@ -2,8 +2,7 @@ use Rattle.std.proofs.Common.{◌+◌, ◌++◌, ◌%◌, ◌^◌, List, arith, 
 use Rattle.std.proofs.lemmas.List.{length-append, length-map}
 use Rattle.dcd_base.specs.declared.capacity.Extent.{Extent}
 use Rattle.device_plain.specs.device_state.specs.StateAfter.{part_of}
-use Rattle.dcd_c.proofs.Filling.{drop_on}
-use Rattle.dcd_c.proofs.OfferSteps.{offer_kept, offers_kept, offers_number, offers_room, told_more}
+use Rattle.dcd_c.proofs.{Filling.drop_on, OfferSteps.offer_kept, OfferSteps.offers_kept, OfferSteps.offers_number, OfferSteps.offers_room, OfferSteps.told_more}
 use Rattle.dcd_c.specs.Lists.{extent_told, offers_from}
 use Rattle.dcd_c.proofs.lists.put_offers.Goals as goal
 

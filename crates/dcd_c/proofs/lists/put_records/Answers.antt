@@ -1,6 +1,5 @@
 use Rattle.std.proofs.Common.{◌*◌, ◌++◌, ◌∙◌, List, ap, drop, flat_map, length, refl, rules, sym}
-use Rattle.event_records.specs.Records.{record_bytes}
-use Rattle.event_records.specs.declared.events.Event.{Event}
+use Rattle.event_records.specs.{Records.record_bytes, declared.events.Event.Event}
 use Rattle.journal_core.specs.Entries.{effects}
 use Rattle.device_plain.specs.device_rules.specs.Counts.{records_of}
 use Rattle.dcd_c.proofs.RecordSteps.{log_told}

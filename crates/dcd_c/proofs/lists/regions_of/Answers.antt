@@ -1,7 +1,5 @@
-use Rattle.std.proofs.Common.{◌∙◌, [], ap, arith, drop, rules, sym, take}
-use Rattle.std.proofs.lemmas.List.{length-set}
-use Rattle.dcd_c.specs.Lists.{region_told}
-use Rattle.dcd_c.proofs.Filling.{put_behind, put_mapped}
+use Rattle.std.proofs.{Common.◌∙◌, Common.[], Common.ap, Common.arith, Common.drop, Common.rules, Common.sym, Common.take, lemmas.List.length-set}
+use Rattle.dcd_c.{specs.Lists.region_told, proofs.Filling.put_behind, proofs.Filling.put_mapped}
 use Rattle.dcd_c.proofs.lists.regions_of.Goals as goal
 
 pub loop-i-preserved : goal.loop-i-preserved

@@ -1,6 +1,6 @@
 -- `empty_place` makes a place that owns nothing.
-use Rattle.std.proofs.Common.{◌≡◌, [], ◌∷◌, refl, lit<}
-use Rattle.std.specs.Prelude.{None}
+use Rattle.std.{proofs.Common.◌≡◌, proofs.Common.[], proofs.Common.◌∷◌, proofs.Common.refl, proofs.Common.lit<, proofs.raw_atomic.Walks.proved_at, proofs.raw_atomic.Walks.leaves, specs.Prelude.None}
+use Rattle.std.specs.Prelude.{Option}
 use mir.Val.{Val}
 use base.Logic.{SProp, emp}
 use base.Fml.{ftrue}
@@ -15,13 +15,8 @@ use denote.Signature.{types_at}
 use denote.RawPtr.{null_ptr, ptr_val}
 use denote.Steps.{nothing}
 use denote.Triple.Walked.{Stays, walk_of}
-use Rattle.std.proofs.raw_atomic.Walks.{proved_at, leaves}
-use Rattle.dcd_c.proofs.PlaceValues.{single, place_in}
-use Rattle.dcd_c.specs.declared.sessions.Session.{Session}
-use Rattle.std.specs.Prelude.{Option}
-use Rattle.dcd_c.specs.contracts.places.empty_place.{ended, clauses}
-use Rattle.dcd_c.specs.contracts.places.empty_place.Key.{name as #self}
-use Rattle.dcd_c.proofs.places.empty_place.Statement.{statement}
+use Rattle.dcd_c.proofs.{PlaceValues.single, PlaceValues.place_in, places.empty_place.Statement.statement}
+use Rattle.dcd_c.specs.{contracts.places.empty_place.ended, contracts.places.empty_place.clauses, contracts.places.empty_place.Key.name as #self, declared.sessions.Session.Session}
 use Rattle.dcd_c.proofs.places.empty_place.Code as code
 
 pub empty_place_spec : {M : Type 1} → statement M

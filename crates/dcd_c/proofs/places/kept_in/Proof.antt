@@ -1,6 +1,6 @@
 -- `kept_in` moves what the parts own to the place.
-use Rattle.std.proofs.Common.{◌≡◌, List, [], ◌∷◌, ◌++◌, refl, sym, subst}
-use Rattle.std.specs.Prelude.{Some}
+use Rattle.std.proofs.{Common.◌≡◌, Common.List, Common.[], Common.◌∷◌, Common.◌++◌, Common.refl, Common.sym, Common.subst, raw_atomic.Walks.proved_at, raw_atomic.Walks.leaves}
+use Rattle.std.specs.{Prelude.Some, contracts.impls.GlobalAllocator.TheImpl.ghosts}
 use mir.Val.{Val, vptr}
 use base.Logic.{SProp, ent, emp, id⊢}
 use base.Fml.{ftrue}
@@ -19,15 +19,9 @@ use denote.Steps.{nothing}
 use denote.Triple.Walked.{Stays, stay_dropped, walk_of, Goes-dropped}
 use Rattle.std.specs.contracts.alloc.Global as heap
 use Rattle.std.proofs.alloc.Global.TheLaws as heap_laws
-use Rattle.std.specs.contracts.impls.GlobalAllocator.TheImpl.{ghosts}
-use Rattle.std.proofs.raw_atomic.Walks.{proved_at, leaves}
 use Rattle.dcd_c.specs.contracts.sessions.Session as device
-use Rattle.dcd_c.specs.Places.{place_owns}
-use Rattle.dcd_c.proofs.LooseValues.{both, Loose, loose_good, loose_out}
-use Rattle.dcd_c.proofs.PlaceValues.{single, place_in}
-use Rattle.dcd_c.specs.contracts.places.kept_in.{ended, clauses}
-use Rattle.dcd_c.specs.contracts.places.kept_in.Key.{name as #self}
-use Rattle.dcd_c.proofs.places.kept_in.Statement.{statement}
+use Rattle.dcd_c.proofs.{LooseValues.both, LooseValues.Loose, LooseValues.loose_good, LooseValues.loose_out, PlaceValues.single, PlaceValues.place_in, places.kept_in.Statement.statement}
+use Rattle.dcd_c.specs.{Places.place_owns, contracts.places.kept_in.ended, contracts.places.kept_in.clauses, contracts.places.kept_in.Key.name as #self}
 use Rattle.dcd_c.proofs.places.kept_in.Code as code
 
 pub kept_in_spec : {M : Type 1} → statement M

@@ -1,10 +1,8 @@
 use Rattle.std.proofs.Common.{◌≡◌, ◌∙◌, [], ap, arith, drop, map, refl, rules, sym, take}
-use Rattle.std.proofs.lemmas.List.{length-map, length-set, take_all}
-use Rattle.std.proofs.lemmas.Option.{get_or_from_slice_get, slice_get_within}
+use Rattle.std.proofs.lemmas.{List.length-map, List.length-set, List.take_all, Option.get_or_from_slice_get, Option.slice_get_within}
 use Rattle.tag_refs.specs.Tables.{tag_view}
+use Rattle.dcd_c.proofs.{Filling.filled, Filling.put_behind, Filling.put_mapped, TagSteps.tag_kept, TagSteps.tags_count, TagSteps.tags_kept, TagSteps.tags_number}
 use Rattle.dcd_c.specs.Lists.{tag_told}
-use Rattle.dcd_c.proofs.Filling.{filled, put_behind, put_mapped}
-use Rattle.dcd_c.proofs.TagSteps.{tag_kept, tags_count, tags_kept, tags_number}
 use Rattle.dcd_c.proofs.tags.tags_of.Goals as goal
 
 pub returns-then-count-room : goal.returns-then-count-room

@@ -1,5 +1,4 @@
-use Rattle.std.proofs.Common.{◌≡◌, List, ℕ, subst}
-use Rattle.std.specs.Prelude.{OnOk}
+use Rattle.std.{proofs.Common.◌≡◌, proofs.Common.List, proofs.Common.ℕ, proofs.Common.subst, specs.Prelude.OnOk}
 use Rattle.dcd_c.proofs.Spelled.{cause_3, cause_4, cause_5, cause_6}
 use Rattle.dcd_c.proofs.texts.add_cause.Goals as goal
 

@@ -1,6 +1,5 @@
 use Rattle.std.proofs.Common.{[], ◌∷◌, ◌++◌, ap, sym, take, ◌∙◌, ◌<◌, length, arith}
-use Rattle.std.proofs.lemmas.List.{take_more}
-use Rattle.std.proofs.lemmas.Option.{get_or_from_slice_get}
+use Rattle.std.proofs.lemmas.{List.take_more, Option.get_or_from_slice_get}
 use Rattle.device_commands.proofs.get_event_records.oldest.Goals as goal
 
 pub loop-index-preserved : goal.loop-index-preserved

@@ -1,6 +1,5 @@
 use Rattle.std.proofs.Common.{◌≡◌, ◌++◌, ◌+◌, ◌≤◌, drop, length, vec_capacity, vec_len}
-use Rattle.device_rules.specs.Outcomes.{records_of_extents}
-use Rattle.device_rules.specs.Views.{View}
+use Rattle.device_rules.specs.{Outcomes.records_of_extents, Views.View}
 use Rattle.device_commands.specs.Drafts.{HasExtentsOf}
 use Rattle.device_commands.proofs.log_records.each_record.Given as goal
 

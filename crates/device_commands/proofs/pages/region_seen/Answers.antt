@@ -1,8 +1,7 @@
 use Rattle.std.proofs.Common.{◌<◌, length, ap, ◌∙◌, arith}
 use Rattle.extent_list.specs.media_map.specs.region_config.specs.Configurations.{Configuration}
 use Rattle.device_rules.proofs.Homes.{regions_same}
-use Rattle.device_commands.specs.ShownFlags.{flags_of as flags_shown}
-use Rattle.device_commands.proofs.ShownRegions.{shown, shown_same}
+use Rattle.device_commands.{specs.ShownFlags.flags_of as flags_shown, proofs.ShownRegions.shown, proofs.ShownRegions.shown_same}
 use Rattle.device_commands.proofs.pages.region_seen.Goals as goal
 
 pub returns : goal.returns

@@ -1,12 +1,9 @@
 use Rattle.std.proofs.Common.{◌≡◌, ◌-◌, ◌≤◌, ℕ, [], ◌∷◌, ◌++◌, length, map, ap, sym, ◌∙◌, arith}
-use Rattle.std.proofs.lemmas.List.{length_push}
-use Rattle.std.specs.List.{range_with_len}
+use Rattle.std.{proofs.lemmas.List.length_push, specs.List.range_with_len}
 use Rattle.extent_list.specs.media_map.specs.region_config.specs.Configurations.{Configuration}
 use Rattle.host_payloads.specs.declared.views.RegionView.{RegionView}
-use Rattle.device_rules.specs.Settings.{region_seen}
-use Rattle.device_rules.proofs.Homes.{regions_same}
-use Rattle.device_commands.specs.ShownFlags.{flags_of as flags_shown}
-use Rattle.device_commands.proofs.RegionPages.{page_done, page_more}
+use Rattle.device_rules.{specs.Settings.region_seen, proofs.Homes.regions_same}
+use Rattle.device_commands.{specs.ShownFlags.flags_of as flags_shown, proofs.RegionPages.page_done, proofs.RegionPages.page_more}
 use Rattle.device_commands.proofs.pages.regions_seen.Goals as goal
 
 pub loop-region-preserved : goal.loop-region-preserved

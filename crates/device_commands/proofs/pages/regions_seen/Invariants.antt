@@ -1,9 +1,6 @@
-use Rattle.std.proofs.Common.{◌≡◌, ◌-◌, map, length}
-use Rattle.std.specs.List.{range_with_len}
-use Rattle.extent_list.specs.media_map.specs.region_config.specs.Configurations.{Configuration}
-use Rattle.extent_list.specs.media_map.specs.region_config.specs.Granules.{with_blocks}
-use Rattle.device_rules.specs.Settings.{region_seen}
-use Rattle.device_rules.specs.Views.{View}
+use Rattle.std.{proofs.Common.◌≡◌, proofs.Common.◌-◌, proofs.Common.map, proofs.Common.length, specs.List.range_with_len}
+use Rattle.extent_list.specs.media_map.specs.region_config.specs.{Configurations.Configuration, Granules.with_blocks}
+use Rattle.device_rules.specs.{Settings.region_seen, Views.View}
 use Rattle.device_commands.specs.ShownFlags.{flags_of as flags_shown}
 use Rattle.device_commands.proofs.pages.regions_seen.Given as goal
 

@@ -1,5 +1,4 @@
-use Rattle.std.proofs.Common.{◌≡◌, ◌+◌, take, length, ap, ◌∙◌, arith}
-use Rattle.std.proofs.lemmas.List.{length-take-le}
+use Rattle.std.proofs.{Common.◌≡◌, Common.◌+◌, Common.take, Common.length, Common.ap, Common.◌∙◌, Common.arith, lemmas.List.length-take-le}
 use Rattle.event_log.specs.LogStates.{LogState}
 use Rattle.device_plain.proofs.LogPuts.{put_count, put_places}
 use Rattle.device_plain.proofs.bringing.append_all.Goals as goal

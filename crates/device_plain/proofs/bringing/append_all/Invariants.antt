@@ -1,5 +1,4 @@
-use Rattle.std.proofs.Common.{◌≡◌, take}
-use Rattle.std.specs.Prelude.{fold}
+use Rattle.std.{proofs.Common.◌≡◌, proofs.Common.take, specs.Prelude.fold}
 use Rattle.event_log.specs.LogStates.{with_record}
 use Rattle.device_plain.proofs.bringing.append_all.Given as goal
 

@@ -1,7 +1,4 @@
-use Rattle.std.proofs.Common.{◌∙◌, ap, arith, sym, take}
-use Rattle.std.specs.Prelude.{fold}
-use Rattle.std.proofs.lemmas.List.{take_all}
-use Rattle.std.proofs.lemmas.List.Sums.{fold_more}
+use Rattle.std.{proofs.Common.◌∙◌, proofs.Common.ap, proofs.Common.arith, proofs.Common.sym, proofs.Common.take, specs.Prelude.fold, proofs.lemmas.List.take_all, proofs.lemmas.List.Sums.fold_more}
 use Rattle.extent_list.specs.HostLists.{Lists}
 use Rattle.control_core.specs.device_state.specs.EnteredLists.{lists_by}
 use Rattle.device_plain.proofs.lists_alone.enter_each.Goals as goal

@@ -1,5 +1,4 @@
-use Rattle.std.proofs.Common.{◌≡◌, take}
-use Rattle.std.specs.Prelude.{fold}
+use Rattle.std.{proofs.Common.◌≡◌, proofs.Common.take, specs.Prelude.fold}
 use Rattle.control_core.specs.device_state.specs.EnteredLists.{lists_by}
 use Rattle.device_plain.proofs.lists_alone.enter_each.Given as goal
 

@@ -1,6 +1,5 @@
 use Rattle.std.proofs.Common.{◌<◌, subst}
-use Rattle.region_config.specs.Configurations.{Configuration}
-use Rattle.region_config.specs.Granules.{granule_total}
+use Rattle.region_config.specs.{Configurations.Configuration, Granules.granule_total}
 use Rattle.device_plain.proofs.ZeroedWords.{word_inside}
 use Rattle.device_plain.proofs.live_accesses.granted.Goals as goal
 

@@ -1,12 +1,7 @@
 use Rattle.std.proofs.Common.{◌≡◌, ◌+◌, ◌<◌, ℕ, List, [], ◌∷◌, ◌++◌, take, length, Some, sym, ap, ◌∙◌, subst, arith}
-use Rattle.std.proofs.lemmas.List.{take_more}
-use Rattle.std.proofs.lemmas.Option.{slice_get-get_or}
-use Rattle.device_plain.specs.Alone.{IsAlone, solo_replies}
-use Rattle.isolation_laws.specs.Solo.{solo_view, solo_word}
-use Rattle.device_plain.specs.Telling.{replies_to}
-use Rattle.isolation_laws.specs.declared.items.Item.{Item}
-use Rattle.isolation_laws.specs.declared.items.SoloReply.{SoloReply}
-use Rattle.device_plain.proofs.AloneItems.{alone_push, solo_replies_push}
+use Rattle.std.proofs.lemmas.{List.take_more, Option.slice_get-get_or}
+use Rattle.device_plain.{specs.Alone.IsAlone, specs.Alone.solo_replies, specs.Telling.replies_to, proofs.AloneItems.alone_push, proofs.AloneItems.solo_replies_push}
+use Rattle.isolation_laws.specs.{Solo.solo_view, Solo.solo_word, declared.items.Item.Item, declared.items.SoloReply.SoloReply}
 use Rattle.device_plain.proofs.replying.solo_replies.Goals as goal
 
 pub loop-i-preserved : goal.loop-i-preserved

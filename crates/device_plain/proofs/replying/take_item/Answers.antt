@@ -1,7 +1,6 @@
 use Rattle.std.proofs.Common.{sym, subst}
 use Rattle.device_plain.specs.Alone.{IsAlone, TakesItem}
-use Rattle.isolation_laws.specs.Solo.{solo_after, solo_word_after}
-use Rattle.isolation_laws.specs.declared.items.Item.{Item}
+use Rattle.isolation_laws.specs.{Solo.solo_after, Solo.solo_word_after, declared.items.Item.Item}
 use Rattle.device_plain.proofs.replying.take_item.Goals as goal
 
 pub returns-in_ok-push-in-Own-clause-taken : goal.returns-in_ok-push-in-Own-clause-taken

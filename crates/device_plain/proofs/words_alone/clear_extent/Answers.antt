@@ -1,6 +1,4 @@
-use Rattle.std.proofs.Common.{rules, ap, ◌∙◌}
-use Rattle.std.specs.Prelude.{not}
-use Rattle.std.proofs.lemmas.Map.Made.{filter_same_pairs}
+use Rattle.std.{proofs.Common.rules, proofs.Common.ap, proofs.Common.◌∙◌, specs.Prelude.not, proofs.lemmas.Map.Made.filter_same_pairs}
 use Rattle.granule_mem.specs.Contents.{word_among}
 use Rattle.isolation_laws.specs.Solo.{has_byte}
 use Rattle.device_plain.proofs.KeptWords.{word_filter}

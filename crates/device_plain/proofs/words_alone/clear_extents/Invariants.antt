@@ -1,6 +1,4 @@
-use Rattle.std.proofs.Common.{◌≡◌, ℕ, take}
-use Rattle.std.specs.Prelude.{if◌then◌else◌}
-use Rattle.std.specs.List.{list_any}
+use Rattle.std.{proofs.Common.◌≡◌, proofs.Common.ℕ, proofs.Common.take, specs.Prelude.if◌then◌else◌, specs.List.list_any}
 use Rattle.granule_mem.specs.Contents.{word_among}
 use Rattle.isolation_laws.specs.Solo.{has_byte}
 use Rattle.device_plain.proofs.words_alone.clear_extents.Given as goal

@@ -1,6 +1,5 @@
 use Rattle.std.proofs.Common.{rules, ◌∙◌, subst}
-use Rattle.device_plain.specs.Accesses.{IsZeroedBy}
-use Rattle.device_plain.proofs.ZeroedWords.{zeroed_more}
+use Rattle.device_plain.{specs.Accesses.IsZeroedBy, proofs.ZeroedWords.zeroed_more}
 use Rattle.device_plain.proofs.zeroing.zero_all.Goals as goal
 
 pub loop-i-preserved : goal.loop-i-preserved

@@ -1,7 +1,5 @@
 use Rattle.journal_core.specs.Entries.{effects}
-use Rattle.device_rules.proofs.LegalSound.{legal_is_sound}
-use Rattle.device_rules.proofs.OpenOnce.{open_once}
-use Rattle.device_rules.proofs.OpenTags.{legal_is_opened, open_is_live}
+use Rattle.device_rules.proofs.{LegalSound.legal_is_sound, OpenOnce.open_once, OpenTags.legal_is_opened, OpenTags.open_is_live}
 use Rattle.device_rules.proofs.open_tags.law_open_tags.Goals as goal
 
 pub returns-clause-live : goal.returns-clause-live

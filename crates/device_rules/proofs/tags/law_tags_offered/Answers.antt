@@ -1,6 +1,5 @@
 use Rattle.journal_core.specs.Entries.{effects}
-use Rattle.device_rules.proofs.AddSteps.{follows_offer, table-policy, table_in_use}
-use Rattle.device_rules.proofs.ReferencedTags.{referenced_open}
+use Rattle.device_rules.proofs.{AddSteps.follows_offer, AddSteps.table-policy, AddSteps.table_in_use, ReferencedTags.referenced_open}
 use Rattle.device_rules.proofs.tags.law_tags_offered.Goals as goal
 
 pub returns-clause-offer : goal.returns-clause-offer

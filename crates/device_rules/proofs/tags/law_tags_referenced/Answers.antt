@@ -1,6 +1,5 @@
 use Rattle.journal_core.specs.Entries.{effects}
-use Rattle.device_rules.proofs.LegalSound.{legal_is_sound}
-use Rattle.device_rules.proofs.ReferenceSteps.{ended-reference, table-add_reference, table-remove_reference, table_referenced}
+use Rattle.device_rules.proofs.{LegalSound.legal_is_sound, ReferenceSteps.ended-reference, ReferenceSteps.table-add_reference, ReferenceSteps.table-remove_reference, ReferenceSteps.table_referenced}
 use Rattle.device_rules.proofs.ReferencedTags.{referenced_open}
 use Rattle.device_rules.proofs.tags.law_tags_referenced.Goals as goal
 

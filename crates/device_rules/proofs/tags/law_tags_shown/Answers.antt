@@ -1,8 +1,5 @@
 use Rattle.journal_core.specs.Entries.{effects}
-use Rattle.device_rules.proofs.LegalSound.{legal_is_sound}
-use Rattle.device_rules.proofs.AddSteps.{table_open_in}
-use Rattle.device_rules.proofs.Listing.{table_length, table_seen}
-use Rattle.device_rules.proofs.TagEntries.{table_live, table_lives}
+use Rattle.device_rules.proofs.{LegalSound.legal_is_sound, AddSteps.table_open_in, Listing.table_length, Listing.table_seen, TagEntries.table_live, TagEntries.table_lives}
 use Rattle.device_rules.proofs.tags.law_tags_shown.Goals as goal
 
 pub returns-clause-shown : goal.returns-clause-shown

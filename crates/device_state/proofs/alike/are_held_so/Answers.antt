@@ -1,7 +1,5 @@
 use Rattle.std.proofs.Common.{◌≡◌, ◌≤◌, ℕ, Bool, eqb, not, get_or, length, length-drop, drop, refl, arith}
-use Rattle.std.specs.Int.{w16}
-use Rattle.std.proofs.lemmas.Bool.{eqb-true, not-false}
-use Rattle.std.proofs.lemmas.Simd.{bitmask_splat, length-chunk}
+use Rattle.std.{specs.Int.w16, proofs.lemmas.Bool.eqb-true, proofs.lemmas.Bool.not-false, proofs.lemmas.Simd.bitmask_splat, proofs.lemmas.Simd.length-chunk}
 use lib.Lanes.{chunk}
 use Rattle.granule_map.proofs.NextOfLanes.{next_none}
 use Rattle.device_state.proofs.alike.are_held_so.Goals as goal

@@ -1,5 +1,4 @@
-use Rattle.std.proofs.Common.{take}
-use Rattle.std.specs.Prelude.{fold}
+use Rattle.std.{proofs.Common.take, specs.Prelude.fold}
 use Rattle.device_state.specs.Granules.{AreChanged, IsLastRegion}
 use Rattle.device_rules.specs.GranuleCells.{offered_extent}
 use Rattle.device_state.proofs.granules.offer_all.Given as goal

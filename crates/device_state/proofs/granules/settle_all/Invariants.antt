@@ -1,5 +1,4 @@
-use Rattle.std.proofs.Common.{take}
-use Rattle.std.specs.Prelude.{fold}
+use Rattle.std.{proofs.Common.take, specs.Prelude.fold}
 use Rattle.device_state.specs.Granules.{AreChanged}
 use Rattle.device_rules.specs.GranuleCells.{ended_run}
 use Rattle.device_state.proofs.granules.settle_all.Given as goal

@@ -1,5 +1,4 @@
-use Rattle.std.proofs.Common.{◌≡◌, ℕ, length, get_or, cond}
-use Rattle.std.specs.Prelude.{if◌then◌else◌}
+use Rattle.std.{proofs.Common.◌≡◌, proofs.Common.ℕ, proofs.Common.length, proofs.Common.get_or, proofs.Common.cond, specs.Prelude.if◌then◌else◌}
 use Rattle.cci_codec.specs.dcd_base.specs.Hosts.{with_host, without_host}
 use Rattle.device_state.proofs.HolderSteps.{between}
 use Rattle.device_state.proofs.holders.set_bits.Given as goal

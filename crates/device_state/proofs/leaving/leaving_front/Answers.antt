@@ -1,5 +1,4 @@
-use Rattle.std.proofs.Common.{◌<◌, length, rules, subst}
-use Rattle.std.proofs.lemmas.List.Elements.{All-more}
+use Rattle.std.proofs.{Common.◌<◌, Common.length, Common.rules, Common.subst, lemmas.List.Elements.All-more}
 use Rattle.device_state.specs.Leaves.{IsLeaving}
 use Rattle.device_state.proofs.leaving.leaving_front.Goals as goal
 

@@ -1,5 +1,4 @@
-use Rattle.std.proofs.Common.{take}
-use Rattle.std.specs.Prelude.{All}
+use Rattle.std.{proofs.Common.take, specs.Prelude.All}
 use Rattle.device_state.specs.Leaves.{IsLeaving}
 use Rattle.device_state.proofs.leaving.leaving_front.Given as goal
 

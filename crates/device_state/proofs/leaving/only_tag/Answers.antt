@@ -1,10 +1,7 @@
 use Rattle.std.proofs.Common.{◌≡◌, ◌∙◌, [], ◌∷◌, List, ap, drop, subst, sym}
 use Rattle.std.specs.List.{list_all}
-use Rattle.cci_codec.specs.dcd_base.specs.Words.{same_tag}
-use Rattle.cci_codec.specs.dcd_base.specs.declared.capacity.Extent.{Extent}
-use Rattle.device_state.specs.EnteredLists.{told}
-use Rattle.device_state.specs.Leaves.{HasOnly, lists_left, told_left}
-use Rattle.device_state.proofs.Leaves.{begins_with, told_once}
+use Rattle.cci_codec.specs.dcd_base.specs.{Words.same_tag, declared.capacity.Extent.Extent}
+use Rattle.device_state.{specs.EnteredLists.told, specs.Leaves.HasOnly, specs.Leaves.lists_left, specs.Leaves.told_left, proofs.Leaves.begins_with, proofs.Leaves.told_once}
 use Rattle.device_state.proofs.leaving.only_tag.Goals as goal
 
 pub returns-then-has_only : goal.returns-then-has_only

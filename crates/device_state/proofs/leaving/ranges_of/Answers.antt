@@ -1,11 +1,7 @@
 use Rattle.std.proofs.Common.{◌≡◌, ◌+◌, ◌^◌, ◌<◌, ◌++◌, ◌∙◌, [], ◌∷◌, ap, arith, length, subst, sym}
-use Rattle.std.specs.Prelude.{All}
-use Rattle.std.proofs.lemmas.List.{append-nil, length_push}
-use Rattle.std.proofs.lemmas.List.Elements.{All-push}
+use Rattle.std.{specs.Prelude.All, proofs.lemmas.List.append-nil, proofs.lemmas.List.length_push, proofs.lemmas.List.Elements.All-push}
 use Rattle.cci_codec.specs.dcd_base.specs.declared.capacity.Extent.{Extent}
-use Rattle.device_state.specs.Leaves.{HasRun}
-use Rattle.device_state.proofs.Leaves.{ranges_more}
-use Rattle.device_state.proofs.leaving.ranges_of.Goals.{in-Some, in_default}
+use Rattle.device_state.{specs.Leaves.HasRun, proofs.Leaves.ranges_more, proofs.leaving.ranges_of.Goals.in-Some, proofs.leaving.ranges_of.Goals.in_default}
 use Rattle.device_state.proofs.leaving.ranges_of.Goals as goal
 
 pub range_of-requires-clause-run : goal.range_of-requires-clause-run

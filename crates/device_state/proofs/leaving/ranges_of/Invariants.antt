@@ -1,5 +1,4 @@
-use Rattle.std.proofs.Common.{◌≡◌, ◌+◌, ◌^◌, ◌<◌, ◌≤◌, length, take}
-use Rattle.std.specs.Prelude.{All}
+use Rattle.std.{proofs.Common.◌≡◌, proofs.Common.◌+◌, proofs.Common.◌^◌, proofs.Common.◌<◌, proofs.Common.◌≤◌, proofs.Common.length, proofs.Common.take, specs.Prelude.All}
 use Rattle.cci_codec.specs.dcd_base.specs.declared.capacity.Extent.{Extent}
 use Rattle.device_state.specs.Leaves.{left_over}
 use Rattle.device_state.proofs.leaving.ranges_of.Given as goal

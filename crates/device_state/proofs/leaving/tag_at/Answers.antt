@@ -1,10 +1,8 @@
-use Rattle.std.proofs.Common.{◌∙◌, [], ◌∷◌, Option, ap, sym}
+use Rattle.std.proofs.{Common.◌∙◌, Common.[], Common.◌∷◌, Common.Option, Common.ap, Common.sym, lemmas.Option.get_or_from_slice_get}
 use Rattle.std.specs.Prelude.{find, option_to_list}
-use Rattle.std.proofs.lemmas.Option.{get_or_from_slice_get}
 use Rattle.cci_codec.specs.dcd_base.specs.declared.capacity.Extent.{Extent}
 use Rattle.extent_list.specs.ExtentLists.{has_range}
-use Rattle.device_state.specs.EnteredLists.{each_tag}
-use Rattle.device_state.proofs.Found.{found-at, found-none}
+use Rattle.device_state.{specs.EnteredLists.each_tag, proofs.Found.found-at, proofs.Found.found-none}
 use Rattle.device_state.proofs.leaving.tag_at.Goals as goal
 
 pub returns-in-Some : goal.returns-in-Some

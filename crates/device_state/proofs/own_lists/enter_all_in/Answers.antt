@@ -1,12 +1,8 @@
-use Rattle.std.proofs.Common.{◌∙◌, List, ap, arith, drop, subst, sym, take}
+use Rattle.std.proofs.{Common.◌∙◌, Common.List, Common.ap, Common.arith, Common.drop, Common.subst, Common.sym, Common.take, Math.Seq.take-add, lemmas.List.take_all, lemmas.List.Sums.fold-append}
 use Rattle.std.specs.Prelude.{fold}
-use Rattle.std.proofs.Math.Seq.{take-add}
-use Rattle.std.proofs.lemmas.List.{take_all}
-use Rattle.std.proofs.lemmas.List.Sums.{fold-append}
 use Rattle.extent_list.specs.HostLists.{Lists}
 use Rattle.journal_core.specs.declared.outcome.Effect.{Effect}
-use Rattle.device_state.specs.EnteredLists.{OwnFits, lists_by}
-use Rattle.device_state.proofs.OwnEffects.{own_fits_behind}
+use Rattle.device_state.{specs.EnteredLists.OwnFits, specs.EnteredLists.lists_by, proofs.OwnEffects.own_fits_behind}
 use Rattle.device_state.proofs.own_lists.enter_all_in.Goals as goal
 
 pub enter_front-done-requires-clause-fits : goal.enter_front-done-requires-clause-fits

@@ -1,5 +1,4 @@
-use Rattle.std.proofs.Common.{◌≡◌, ◌-◌, ◌≤◌, length, take}
-use Rattle.std.specs.Prelude.{fold}
+use Rattle.std.{proofs.Common.◌≡◌, proofs.Common.◌-◌, proofs.Common.◌≤◌, proofs.Common.length, proofs.Common.take, specs.Prelude.fold}
 use Rattle.device_state.specs.EnteredLists.{lists_by}
 use Rattle.device_state.proofs.own_lists.enter_all_in.Given as goal
 

@@ -1,8 +1,7 @@
 use Rattle.std.proofs.Common.{◌∙◌, sym, ap, drop}
 use Rattle.extent_list.specs.HostLists.{Lists}
 use Rattle.journal_core.specs.declared.outcome.Effect.{Effect}
-use Rattle.device_state.proofs.Listed.{of_answer}
-use Rattle.device_state.proofs.OwnEffects.{enters_answer, of_another}
+use Rattle.device_state.proofs.{Listed.of_answer, OwnEffects.enters_answer, OwnEffects.of_another}
 use Rattle.device_state.proofs.own_lists.enter_answer.Goals as goal
 
 pub returns-then-of-host : goal.returns-then-of-host

@@ -1,11 +1,8 @@
-use Rattle.std.proofs.Common.{◌≡◌, ◌∙◌, List, ap, subst, sym, take}
+use Rattle.std.proofs.{Common.◌≡◌, Common.◌∙◌, Common.List, Common.ap, Common.subst, Common.sym, Common.take, lemmas.List.Elements.All-take}
 use Rattle.std.specs.Prelude.{All, fold}
-use Rattle.std.proofs.lemmas.List.Elements.{All-take}
 use Rattle.extent_list.specs.HostLists.{Lists}
 use Rattle.journal_core.specs.declared.outcome.Effect.{Effect}
-use Rattle.device_state.specs.EnteredLists.{lists_by}
-use Rattle.device_state.specs.Leaves.{HasRun, IsLeaving, left_over, lists_left}
-use Rattle.device_state.proofs.Leaves.{own_left, own_runs_fit}
+use Rattle.device_state.{specs.EnteredLists.lists_by, specs.Leaves.HasRun, specs.Leaves.IsLeaving, specs.Leaves.left_over, specs.Leaves.lists_left, proofs.Leaves.own_left, proofs.Leaves.own_runs_fit}
 use Rattle.device_state.proofs.own_lists.enter_front.Goals as goal
 
 pub ranges_of-ranges-requires-clause-runs : goal.ranges_of-ranges-requires-clause-runs

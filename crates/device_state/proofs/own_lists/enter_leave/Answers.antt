@@ -1,8 +1,7 @@
 use Rattle.std.proofs.Common.{◌∙◌, arith, sym}
 use Rattle.extent_list.specs.ExtentLists.{cut}
 use Rattle.journal_core.specs.declared.outcome.Effect.{Effect}
-use Rattle.device_state.proofs.Listed.{of_leave}
-use Rattle.device_state.proofs.OwnEffects.{enters_leave, of_another}
+use Rattle.device_state.proofs.{Listed.of_leave, OwnEffects.enters_leave, OwnEffects.of_another}
 use Rattle.device_state.proofs.own_lists.enter_leave.Goals as goal
 
 pub returns-then-of-host : goal.returns-then-of-host

@@ -1,7 +1,6 @@
 use Rattle.std.proofs.Common.{◌∙◌, sym}
 use Rattle.journal_core.specs.declared.outcome.Effect.{Effect}
-use Rattle.device_state.proofs.Listed.{of_offer}
-use Rattle.device_state.proofs.OwnEffects.{enters_offer, of_another}
+use Rattle.device_state.proofs.{Listed.of_offer, OwnEffects.enters_offer, OwnEffects.of_another}
 use Rattle.device_state.proofs.own_lists.enter_offer.Goals as goal
 
 pub returns-then-of-host : goal.returns-then-of-host

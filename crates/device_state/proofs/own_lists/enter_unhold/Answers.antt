@@ -1,7 +1,6 @@
 use Rattle.std.proofs.Common.{◌∙◌, sym}
 use Rattle.journal_core.specs.declared.outcome.Effect.{Effect}
-use Rattle.device_state.proofs.Listed.{of_unhold}
-use Rattle.device_state.proofs.OwnEffects.{enters_unhold, of_another}
+use Rattle.device_state.proofs.{Listed.of_unhold, OwnEffects.enters_unhold, OwnEffects.of_another}
 use Rattle.device_state.proofs.own_lists.enter_unhold.Goals as goal
 
 pub returns-then-of-host : goal.returns-then-of-host

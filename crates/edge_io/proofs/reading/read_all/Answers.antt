@@ -1,6 +1,5 @@
 use Rattle.edge_io.proofs.Fronts.{taken_too}
-use Rattle.std.proofs.lemmas.List.{length-take}
-use Rattle.std.proofs.Common.{◌+◌, arith}
+use Rattle.std.proofs.{lemmas.List.length-take, Common.◌+◌, Common.arith}
 use Rattle.edge_io.proofs.reading.read_all.Goals as goal
 
 pub returns-then-is_err-clause-takes : goal.returns-then-is_err-clause-takes

@@ -1,7 +1,5 @@
 use Rattle.std.proofs.Common.{refl}
-use Rattle.edge_io.specs.Words.{words_of}
-use Rattle.edge_io.specs.Runs.{seen_of}
-use Rattle.edge_io.proofs.Endings.{begun_so, no_input, stopped_so, written_so}
+use Rattle.edge_io.{specs.Words.words_of, specs.Runs.seen_of, proofs.Endings.begun_so, proofs.Endings.no_input, proofs.Endings.stopped_so, proofs.Endings.written_so}
 use Rattle.edge_io.proofs.running.run.Goals as goal
 
 pub returns-in-Ok-print : goal.returns-in-Ok-print

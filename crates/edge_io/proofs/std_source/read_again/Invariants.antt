@@ -1,5 +1,4 @@
-use Rattle.std.proofs.Common.{◌≡◌, length}
-use Rattle.std.specs.Io.KnownBytes.{Keeps}
+use Rattle.std.{proofs.Common.◌≡◌, proofs.Common.length, specs.Io.KnownBytes.Keeps}
 use Rattle.edge_io.proofs.std_source.read_again.Given as goal
 
 -- The buffer keeps its length, and a read that was interrupted took nothing.

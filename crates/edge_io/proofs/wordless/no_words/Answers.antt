@@ -1,6 +1,5 @@
 use Rattle.std.proofs.Common.{Some, None, rules}
-use Rattle.edge_io.specs.Words.{words_of}
-use Rattle.edge_io.proofs.NoWords.{none_taken, one_answer, some_taken}
+use Rattle.edge_io.{specs.Words.words_of, proofs.NoWords.none_taken, proofs.NoWords.one_answer, proofs.NoWords.some_taken}
 use Rattle.edge_io.proofs.wordless.no_words.Goals as goal
 
 pub returns-in-0-clause-asked : goal.returns-in-0-clause-asked

@@ -1,5 +1,4 @@
-use Rattle.event_records.proofs.Records.{record_spelled}
-use Rattle.event_records.specs.Records.{record_bytes}
+use Rattle.event_records.{proofs.Records.record_spelled, specs.Records.record_bytes}
 use Rattle.event_records.proofs.laws.decoded_again.Goals as goal
 
 pub returns : goal.returns

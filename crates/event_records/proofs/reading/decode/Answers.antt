@@ -1,8 +1,7 @@
 use Rattle.std.proofs.Common.{rules, ◌≡◌, None, Some, Ok, slice_index, refl, ap}
 use Rattle.dcd_base.specs.declared.capacity.Tag.{Tag}
-use Rattle.event_records.specs.Records.{record_fault}
+use Rattle.event_records.{proofs.Records.record_reads, proofs.Records.record_read, proofs.Records.not_read, proofs.Records.same_event, specs.Records.record_fault}
 use Rattle.event_records.specs.declared.faults.RecordFault.{RecordFault}
-use Rattle.event_records.proofs.Records.{record_reads, record_read, not_read, same_event}
 use Rattle.event_records.proofs.reading.decode.Goals as goal
 
 pub returns-then-not-is_identifier-clause-only : goal.returns-then-not-is_identifier-clause-only

@@ -1,8 +1,6 @@
-use Rattle.std.proofs.Common.{◌++◌, sym, ap, ◌∙◌}
-use Rattle.std.specs.List.{flat_map}
+use Rattle.std.{proofs.Common.◌++◌, proofs.Common.sym, proofs.Common.ap, proofs.Common.◌∙◌, specs.List.flat_map}
 use Rattle.journal_check.specs.kept_journal.specs.Lending.{lent, lent_entry}
-use Rattle.explainer.specs.Explanations.{entry_explained}
-use Rattle.explainer.proofs.Lists.{entries_done, entry_more}
+use Rattle.explainer.{specs.Explanations.entry_explained, proofs.Lists.entries_done, proofs.Lists.entry_more}
 use Rattle.explainer.proofs.entries.write_entries.Goals as goal
 
 pub loop-entry-preserved : goal.loop-entry-preserved

@@ -1,5 +1,4 @@
-use Rattle.std.proofs.Common.{◌≡◌, ◌++◌, length}
-use Rattle.std.specs.List.{flat_map}
+use Rattle.std.{proofs.Common.◌≡◌, proofs.Common.◌++◌, proofs.Common.length, specs.List.flat_map}
 use Rattle.explainer.specs.Explanations.{entry_explained}
 use Rattle.explainer.proofs.entries.write_entries.Given as goal
 

@@ -1,8 +1,6 @@
-use Rattle.std.proofs.Common.{◌≡◌, Some, sym, ap, subst, ◌∙◌}
-use Rattle.std.specs.Option.{option_copied}
+use Rattle.std.{proofs.Common.◌≡◌, proofs.Common.Some, proofs.Common.sym, proofs.Common.ap, proofs.Common.subst, proofs.Common.◌∙◌, specs.Option.option_copied}
 use Rattle.std.specs.Prelude.{IsTrue, slice_get}
-use Rattle.script_text.specs.script_codec.specs.Scripts.{are_lanes, is_sound_line}
-use Rattle.script_text.specs.script_codec.specs.Writing.{has_short_message}
+use Rattle.script_text.specs.script_codec.specs.{Scripts.are_lanes, Scripts.is_sound_line, Writing.has_short_message}
 use Rattle.explainer.proofs.Lists.{member_has}
 use Rattle.explainer.proofs.entries.write_line_of.Goals as goal
 

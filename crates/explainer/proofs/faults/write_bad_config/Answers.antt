@@ -1,6 +1,5 @@
 use Rattle.std.specs.Prelude.{codes}
-use Rattle.explainer.specs.Faults.{config_text}
-use Rattle.explainer.proofs.Puts.{puts_then}
+use Rattle.explainer.{specs.Faults.config_text, proofs.Puts.puts_then}
 use Rattle.explainer.proofs.faults.write_bad_config.Goals as goal
 
 pub returns : goal.returns

@@ -1,6 +1,5 @@
 use Rattle.std.specs.Prelude.{[], ◌∷◌, codes}
-use Rattle.explainer.specs.Faults.{with_number, cut_line}
-use Rattle.explainer.proofs.Puts.{puts_three}
+use Rattle.explainer.{specs.Faults.with_number, specs.Faults.cut_line, proofs.Puts.puts_three}
 use Rattle.explainer.proofs.faults.write_cut.Goals as goal
 
 pub returns : goal.returns

@@ -1,6 +1,5 @@
 use Rattle.std.specs.Prelude.{codes}
-use Rattle.explainer.specs.Faults.{with_number}
-use Rattle.explainer.proofs.Puts.{puts_then}
+use Rattle.explainer.{specs.Faults.with_number, proofs.Puts.puts_then}
 use Rattle.explainer.proofs.faults.write_lengths.Goals as goal
 
 pub returns : goal.returns

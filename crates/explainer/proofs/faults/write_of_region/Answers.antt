@@ -1,5 +1,4 @@
-use Rattle.explainer.specs.Faults.{of_region}
-use Rattle.explainer.proofs.Puts.{puts_then}
+use Rattle.explainer.{specs.Faults.of_region, proofs.Puts.puts_then}
 use Rattle.explainer.proofs.faults.write_of_region.Goals as goal
 
 pub returns : goal.returns

@@ -1,9 +1,7 @@
 use Rattle.std.proofs.Common.{◌≡◌, ◌++◌, ◌-◌, ◌+◌, take, drop, length, ap, sym, ◌∙◌, arith}
 use Rattle.std.specs.List.{flat_map}
 use Rattle.dcd_base.specs.Layouts.{pieces}
-use Rattle.explainer.specs.ReplyKinds.{item_length}
-use Rattle.explainer.specs.ReplyWords.{item_line}
-use Rattle.explainer.proofs.ReplyLists.{items_left, one_item}
+use Rattle.explainer.{specs.ReplyKinds.item_length, specs.ReplyWords.item_line, proofs.ReplyLists.items_left, proofs.ReplyLists.one_item}
 use Rattle.explainer.proofs.items.write_items.Goals as goal
 
 pub loop-preserved : goal.loop-preserved

@@ -1,8 +1,6 @@
-use Rattle.std.proofs.Common.{◌≡◌, ◌++◌, ◌*◌, ◌-◌, ◌≤◌, length}
-use Rattle.std.specs.List.{flat_map}
+use Rattle.std.{proofs.Common.◌≡◌, proofs.Common.◌++◌, proofs.Common.◌*◌, proofs.Common.◌-◌, proofs.Common.◌≤◌, proofs.Common.length, specs.List.flat_map}
 use Rattle.dcd_base.specs.Layouts.{pieces}
-use Rattle.explainer.specs.ReplyKinds.{item_length}
-use Rattle.explainer.specs.ReplyWords.{item_line, item_lines}
+use Rattle.explainer.specs.{ReplyKinds.item_length, ReplyWords.item_line, ReplyWords.item_lines}
 use Rattle.explainer.proofs.items.write_items.Given as goal
 
 -- The lines of the items so far are put; those that are left are all there.

@@ -1,10 +1,8 @@
-use Rattle.std.proofs.Common.{◌+◌}
-use Rattle.std.specs.List.{range_with_len}
+use Rattle.std.{proofs.Common.◌+◌, specs.List.range_with_len}
 use Rattle.dcd_base.specs.declared.steps.LogId.{LogId}
 use Rattle.journal_core.specs.Entries.{effects}
 use Rattle.journal_check.specs.report.proofs.Parts.{hosts_push}
-use Rattle.explainer.specs.Explanations.{left_in_log}
-use Rattle.explainer.proofs.Lists.{member_more}
+use Rattle.explainer.{specs.Explanations.left_in_log, proofs.Lists.member_more}
 use Rattle.explainer.proofs.logs.write_left_for_hosts.Goals as goal
 
 pub loop-host-preserved : goal.loop-host-preserved

@@ -1,9 +1,7 @@
 use Rattle.std.proofs.Common.{◌+◌, take}
 use Rattle.journal_core.specs.Entries.{effects}
-use Rattle.journal_check.specs.device_rules.specs.Counts.{records_of}
-use Rattle.journal_check.specs.report.proofs.Parts.{take_got}
-use Rattle.explainer.specs.Explanations.{left_record}
-use Rattle.explainer.proofs.Lists.{member_more}
+use Rattle.journal_check.specs.{device_rules.specs.Counts.records_of, report.proofs.Parts.take_got}
+use Rattle.explainer.{specs.Explanations.left_record, proofs.Lists.member_more}
 use Rattle.explainer.proofs.logs.write_left_in.Goals as goal
 
 pub loop-index-preserved : goal.loop-index-preserved

@@ -1,5 +1,4 @@
-use Rattle.std.proofs.Common.{◌≡◌, ◌++◌, take}
-use Rattle.std.specs.List.{flat_map}
+use Rattle.std.{proofs.Common.◌≡◌, proofs.Common.◌++◌, proofs.Common.take, specs.List.flat_map}
 use Rattle.journal_core.specs.Entries.{effects}
 use Rattle.journal_check.specs.device_rules.specs.Counts.{records_of}
 use Rattle.explainer.specs.Explanations.{left_record}

@@ -1,11 +1,8 @@
-use Rattle.std.proofs.Common.{◌++◌, ◌≡◌}
-use Rattle.std.specs.Prelude.{codes}
-use Rattle.std.specs.Int.{w32, w64}
+use Rattle.std.{proofs.Common.◌++◌, proofs.Common.◌≡◌, specs.Prelude.codes, specs.Int.w32, specs.Int.w64}
 use Rattle.dcd_base.specs.Layouts.{number_at}
 use Rattle.script_text.specs.text_lines.specs.Sizes.{sizes_text}
-use Rattle.explainer.specs.PartWords.{counts_words, decode_bytes, labelled, labelled_size, region_ranges, sizes_words}
-use Rattle.explainer.specs.ReplyWords.{tags_heading}
 use Rattle.explainer.proofs.ReplyLists.{put_last}
+use Rattle.explainer.specs.{PartWords.counts_words, PartWords.decode_bytes, PartWords.labelled, PartWords.labelled_size, PartWords.region_ranges, PartWords.sizes_words, ReplyWords.tags_heading}
 use Rattle.explainer.proofs.regions.write_block_sizes.Goals as goal
 
 pub returns : goal.returns

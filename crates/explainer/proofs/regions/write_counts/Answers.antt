@@ -1,9 +1,6 @@
-use Rattle.std.proofs.Common.{◌++◌}
-use Rattle.std.specs.Prelude.{codes}
-use Rattle.std.specs.Int.{w32}
+use Rattle.std.{proofs.Common.◌++◌, specs.Prelude.codes, specs.Int.w32}
 use Rattle.dcd_base.specs.Layouts.{number_at}
-use Rattle.explainer.specs.PartWords.{counts_words, labelled}
-use Rattle.explainer.proofs.ReplyLists.{put_last, put_then}
+use Rattle.explainer.{specs.PartWords.counts_words, specs.PartWords.labelled, proofs.ReplyLists.put_last, proofs.ReplyLists.put_then}
 use Rattle.explainer.proofs.regions.write_counts.Goals as goal
 
 pub returns : goal.returns

@@ -1,9 +1,6 @@
-use Rattle.std.proofs.Common.{◌++◌}
-use Rattle.std.specs.Prelude.{codes}
-use Rattle.std.specs.Int.{w64}
+use Rattle.std.{proofs.Common.◌++◌, specs.Prelude.codes, specs.Int.w64}
 use Rattle.dcd_base.specs.Layouts.{number_at}
-use Rattle.explainer.specs.PartWords.{decode_bytes, labelled_size, region_ranges}
-use Rattle.explainer.proofs.ReplyLists.{put_last, put_then}
+use Rattle.explainer.{specs.PartWords.decode_bytes, specs.PartWords.labelled_size, specs.PartWords.region_ranges, proofs.ReplyLists.put_last, proofs.ReplyLists.put_then}
 use Rattle.explainer.proofs.regions.write_region_ranges.Goals as goal
 
 pub returns : goal.returns

@@ -1,9 +1,7 @@
-use Rattle.std.proofs.Common.{◌+◌}
-use Rattle.std.specs.List.{range_with_len}
+use Rattle.std.{proofs.Common.◌+◌, specs.List.range_with_len}
 use Rattle.journal_core.specs.Entries.{effects}
 use Rattle.journal_check.specs.report.proofs.Parts.{hosts_push}
-use Rattle.explainer.specs.Explanations.{host_state}
-use Rattle.explainer.proofs.Lists.{member_more}
+use Rattle.explainer.{specs.Explanations.host_state, proofs.Lists.member_more}
 use Rattle.explainer.proofs.states.write_hosts_state.Goals as goal
 
 pub loop-host-preserved : goal.loop-host-preserved

@@ -1,5 +1,4 @@
-use Rattle.std.proofs.Common.{◌≡◌, ◌++◌}
-use Rattle.std.specs.List.{flat_map, range_with_len}
+use Rattle.std.{proofs.Common.◌≡◌, proofs.Common.◌++◌, specs.List.flat_map, specs.List.range_with_len}
 use Rattle.journal_core.specs.Entries.{effects}
 use Rattle.explainer.specs.Explanations.{host_state}
 use Rattle.explainer.proofs.states.write_hosts_state.Given as goal

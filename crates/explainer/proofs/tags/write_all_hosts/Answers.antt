@@ -1,6 +1,5 @@
 use Rattle.std.proofs.Common.{◌≡◌, ◌++◌, ap, ◌∙◌, arith}
-use Rattle.explainer.specs.PartWords.{hosts_below}
-use Rattle.explainer.proofs.ReplyLists.{no_host, one_host}
+use Rattle.explainer.{specs.PartWords.hosts_below, proofs.ReplyLists.no_host, proofs.ReplyLists.one_host}
 use Rattle.explainer.proofs.tags.write_all_hosts.Goals as goal
 
 pub loop-host-init : goal.loop-host-init

@@ -1,8 +1,5 @@
 use Rattle.std.proofs.Common.{◌≡◌, None, subst, sym, get_or}
-use Rattle.extent_list.specs.Fitting.{Fits}
-use Rattle.extent_list.specs.Listing.{overlapping}
-use Rattle.extent_list.proofs.FirstOwner.{no_extent}
-use Rattle.extent_list.proofs.FitFront.{fits_more}
+use Rattle.extent_list.{specs.Fitting.Fits, specs.Listing.overlapping, proofs.FirstOwner.no_extent, proofs.FitFront.fits_more}
 use Rattle.extent_list.proofs.fitted_front.fit_behind.Goals as goal
 
 pub fits_behind-requires-clause-apart : goal.fits_behind-requires-clause-apart

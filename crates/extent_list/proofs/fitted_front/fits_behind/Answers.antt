@@ -1,7 +1,5 @@
 use Rattle.std.proofs.Common.{◌≡◌, true, sym, ap, ◌∙◌, subst}
-use Rattle.extent_list.specs.Fitting.{IsOwnedBehind, area_of, fits_area}
-use Rattle.extent_list.specs.declared.placing.Area.{Area}
-use Rattle.extent_list.proofs.FitFront.{fit_by, fits_placed}
+use Rattle.extent_list.{specs.Fitting.IsOwnedBehind, specs.Fitting.area_of, specs.Fitting.fits_area, specs.declared.placing.Area.Area, proofs.FitFront.fit_by, proofs.FitFront.fits_placed}
 use Rattle.extent_list.proofs.fitted_front.fits_behind.Goals as goal
 
 pub returns-then-has : goal.returns-then-has

@@ -1,12 +1,9 @@
-use Rattle.std.proofs.Common.{◌≡◌, ◌&&◌, List, get_or, sym, ap, ◌∙◌, refl}
-use Rattle.std.specs.Prelude.{◌==◌}
+use Rattle.std.{proofs.Common.◌≡◌, proofs.Common.◌&&◌, proofs.Common.List, proofs.Common.get_or, proofs.Common.sym, proofs.Common.ap, proofs.Common.◌∙◌, proofs.Common.refl, specs.Prelude.◌==◌}
 use Rattle.dcd_base.specs.declared.capacity.Extent.{Extent}
-use Rattle.extent_list.specs.ExtentLists.{owner_of}
-use Rattle.extent_list.proofs.FirstOwner.{no_extent, owner_at}
-use Rattle.extent_list.proofs.Apart.{in_at}
-use Rattle.extent_list.proofs.FitFront.{not_true, part_none}
-use Rattle.extent_list.proofs.fitted_front.is_owned_behind.Goals as goal
+use Rattle.extent_list.proofs.{Apart.in_at, FirstOwner.no_extent, FirstOwner.owner_at, FitFront.not_true, FitFront.part_none}
 use Rattle.extent_list.proofs.fitted_front.is_owned_behind.Goals.{else-shareable-via-then-shareable+else-not-is_same, else-shareable-via-else-shareable}
+use Rattle.extent_list.specs.ExtentLists.{owner_of}
+use Rattle.extent_list.proofs.fitted_front.is_owned_behind.Goals as goal
 
 pub returns-then-apart : goal.returns-then-apart
 returns-then-apart c = λ yes.

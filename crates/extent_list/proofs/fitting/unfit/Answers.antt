@@ -1,13 +1,9 @@
 use Rattle.std.proofs.Common.{◌≡◌, ◌&&◌, List, length, get_or, not, sym, ap, ◌∙◌}
 use Rattle.std.specs.Prelude.{◌==◌}
 use Rattle.dcd_base.specs.declared.capacity.Extent.{Extent}
-use Rattle.dcd_codes.specs.Rules.{◌breaks◌}
-use Rattle.dcd_codes.specs.declared.rules.Rule.{Rule}
-use Rattle.extent_list.specs.ExtentLists.{owner_of}
-use Rattle.extent_list.specs.Listing.{is_shareable_at, not_whole}
-use Rattle.extent_list.proofs.FirstOwner.{no_extent, owner_at}
-use Rattle.extent_list.proofs.OneByOne.{row_missing, row_overlap, row_part}
-use Rattle.extent_list.proofs.Apart.{in_at, in_none}
+use Rattle.dcd_codes.specs.{Rules.◌breaks◌, declared.rules.Rule.Rule}
+use Rattle.extent_list.proofs.{Apart.in_at, Apart.in_none, FirstOwner.no_extent, FirstOwner.owner_at, OneByOne.row_missing, OneByOne.row_overlap, OneByOne.row_part}
+use Rattle.extent_list.specs.{ExtentLists.owner_of, Listing.is_shareable_at, Listing.not_whole}
 use Rattle.extent_list.proofs.fitting.unfit.Goals as goal
 
 pub returns-in-None : goal.returns-in-None

@@ -1,6 +1,5 @@
 use Rattle.std.proofs.Common.{◌-◌, ◌<◌, length, arith, rules, ◌∙◌}
-use Rattle.extent_list.proofs.ApartLists.{no_extent}
-use Rattle.extent_list.proofs.Back.{cut_back}
+use Rattle.extent_list.proofs.{ApartLists.no_extent, Back.cut_back}
 use Rattle.extent_list.proofs.list.whole_at_back.Goals as goal
 
 pub loop-i-preserved : goal.loop-i-preserved

@@ -1,9 +1,6 @@
-use Rattle.std.proofs.Common.{sym, ◌∙◌, ◌≡◌, ◌≤◌, length, arith, subst, None}
-use Rattle.std.proofs.lemmas.List.{take_all}
-use Rattle.dcd_codes.proofs.RuleSteps.{each_in_found, each_in_more}
-use Rattle.dcd_codes.specs.Rules.{each_in}
-use Rattle.extent_list.proofs.FirstOwner.{no_extent}
-use Rattle.extent_list.specs.Listed.{listed_rule}
+use Rattle.std.proofs.{Common.sym, Common.◌∙◌, Common.◌≡◌, Common.◌≤◌, Common.length, Common.arith, Common.subst, Common.None, lemmas.List.take_all}
+use Rattle.dcd_codes.{proofs.RuleSteps.each_in_found, proofs.RuleSteps.each_in_more, specs.Rules.each_in}
+use Rattle.extent_list.{proofs.FirstOwner.no_extent, specs.Listed.listed_rule}
 use Rattle.extent_list.proofs.listed.first_behind.Goals as goal
 
 pub loop-i-preserved : goal.loop-i-preserved

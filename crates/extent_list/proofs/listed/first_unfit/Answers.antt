@@ -1,5 +1,4 @@
-use Rattle.std.proofs.Common.{◌≡◌, ◌≤◌, None, arith, length, subst, sym}
-use Rattle.std.proofs.lemmas.List.{take_all}
+use Rattle.std.proofs.{Common.◌≡◌, Common.◌≤◌, Common.None, Common.arith, Common.length, Common.subst, Common.sym, lemmas.List.take_all}
 use Rattle.dcd_codes.specs.Rules.{each_in}
 use Rattle.extent_list.specs.Listed.{listed_rule}
 use Rattle.extent_list.proofs.listed.first_unfit.Goals as goal

@@ -1,10 +1,6 @@
 use Rattle.std.proofs.Common.{◌≡◌, None, get_or, subst, sym, take}
 use Rattle.dcd_codes.specs.Rules.{each_in}
-use Rattle.extent_list.proofs.FirstOwner.{no_extent}
-use Rattle.extent_list.proofs.FitFront.{each_fits}
-use Rattle.extent_list.proofs.ListRules.{fit_keeps}
-use Rattle.extent_list.specs.Listed.{listed_rule}
-use Rattle.extent_list.specs.declared.listed.Within.{Within}
+use Rattle.extent_list.{proofs.FirstOwner.no_extent, proofs.FitFront.each_fits, proofs.ListRules.fit_keeps, specs.Listed.listed_rule, specs.declared.listed.Within.Within}
 use Rattle.extent_list.proofs.listed.fit_in_front.Goals as goal
 
 pub returns-in-AnyRegion-clause-fit : goal.returns-in-AnyRegion-clause-fit

@@ -1,9 +1,7 @@
-use Rattle.std.proofs.Common.{◌≡◌, ◌+◌, arith, get_or, inr, rules, subst, ◌∙◌}
-use Rattle.std.proofs.lemmas.List.{take_all}
-use Rattle.extent_list.specs.Apart.{StandApart}
+use Rattle.std.proofs.{Common.◌≡◌, Common.◌+◌, Common.arith, Common.get_or, Common.inr, Common.rules, Common.subst, Common.◌∙◌, lemmas.List.take_all}
+use Rattle.extent_list.{specs.Apart.StandApart, proofs.standing.stand_apart.Goals.then-high-extent, proofs.standing.stand_apart.Goals.else-high-extent+then-end-low}
 use Rattle.extent_list.proofs.ApartLists.{above_apart, begins_min, begins_new, below_apart, below_high, ends_more, ends_new, lie_more, no_extent}
 use Rattle.extent_list.proofs.standing.stand_apart.Goals as goal
-use Rattle.extent_list.proofs.standing.stand_apart.Goals.{then-high-extent, else-high-extent+then-end-low}
 
 pub loop-extent-preserved : goal.loop-extent-preserved
 loop-extent-preserved c =

@@ -1,6 +1,5 @@
 use Rattle.std.proofs.Common.{◌≡◌, ◌⊎◌, ◌≤◌, take}
-use Rattle.extent_list.specs.Apart.{StandApart}
-use Rattle.extent_list.proofs.ApartLists.{BeginsAt, EndsAt, LieIn}
+use Rattle.extent_list.{specs.Apart.StandApart, proofs.ApartLists.BeginsAt, proofs.ApartLists.EndsAt, proofs.ApartLists.LieIn}
 use Rattle.extent_list.proofs.standing.stand_apart.Given as goal
 
 abbrev pub invariant-loop-extent : goal.invariant-loop-extent

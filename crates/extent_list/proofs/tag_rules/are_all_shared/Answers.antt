@@ -1,9 +1,6 @@
 use Rattle.std.proofs.Common.{◌≡◌, List, length, get_or, sym, ap, ◌∙◌, arith, rules}
-use Rattle.dcd_base.specs.Words.{same_tag}
-use Rattle.dcd_base.specs.declared.capacity.Extent.{Extent}
-use Rattle.extent_list.specs.ExtentLists.{marked}
-use Rattle.extent_list.proofs.FirstOwner.{no_extent}
-use Rattle.extent_list.proofs.Shares.{all_so_far, none_so_far, shared_more}
+use Rattle.dcd_base.specs.{Words.same_tag, declared.capacity.Extent.Extent}
+use Rattle.extent_list.{specs.ExtentLists.marked, proofs.FirstOwner.no_extent, proofs.Shares.all_so_far, proofs.Shares.none_so_far, proofs.Shares.shared_more}
 use Rattle.extent_list.proofs.tag_rules.are_all_shared.Goals as goal
 
 pub loop-i-init : goal.loop-i-init

@@ -1,8 +1,5 @@
-use Rattle.std.proofs.Common.{arith, rules, subst, length, take, ◌<◌}
-use Rattle.std.proofs.lemmas.List.{take_all}
-use Rattle.extent_list.specs.Sharing.{HaveSameTags}
-use Rattle.extent_list.proofs.FirstOwner.{no_extent}
-use Rattle.extent_list.proofs.Shares.{same_more}
+use Rattle.std.proofs.{Common.arith, Common.rules, Common.subst, Common.length, Common.take, Common.◌<◌, lemmas.List.take_all}
+use Rattle.extent_list.{specs.Sharing.HaveSameTags, proofs.FirstOwner.no_extent, proofs.Shares.same_more}
 use Rattle.extent_list.proofs.tag_rules.have_same_tags.Goals as goal
 
 pub loop-i-preserved : goal.loop-i-preserved

@@ -1,6 +1,5 @@
 use Rattle.std.proofs.Common.{sym}
-use Rattle.extent_list.specs.Listing.{shared_of}
-use Rattle.extent_list.proofs.Shares.{none_incomplete, none_left}
+use Rattle.extent_list.{specs.Listing.shared_of, proofs.Shares.none_incomplete, proofs.Shares.none_left}
 use Rattle.extent_list.proofs.tag_rules.incomplete_among.Goals as goal
 
 pub returns-then-not-has_shareable : goal.returns-then-not-has_shareable

@@ -1,6 +1,5 @@
 use Rattle.std.proofs.Common.{sym, ap, ◌∙◌}
-use Rattle.extent_list.specs.declared.placing.Area.{Area}
-use Rattle.extent_list.proofs.FitFront.{begins_at}
+use Rattle.extent_list.{specs.declared.placing.Area.Area, proofs.FitFront.begins_at}
 use Rattle.media_map.specs.Places.{is_within}
 use Rattle.extent_list.proofs.tag_rules.is_shareable_near.Goals as goal
 

@@ -1,8 +1,5 @@
 use Rattle.std.proofs.Common.{get_or, sym, ◌∙◌}
-use Rattle.extent_list.specs.Listing.{too_few_of}
-use Rattle.extent_list.proofs.EachTag.{next_is, over_found, over_more}
-use Rattle.extent_list.proofs.FirstOwner.{no_extent}
-use Rattle.extent_list.proofs.Shares.{none_left}
+use Rattle.extent_list.{specs.Listing.too_few_of, proofs.EachTag.next_is, proofs.EachTag.over_found, proofs.EachTag.over_more, proofs.FirstOwner.no_extent, proofs.Shares.none_left}
 use Rattle.extent_list.proofs.tag_rules.some_left.Goals as goal
 
 pub returns-in-Some : goal.returns-in-Some

@@ -1,7 +1,5 @@
 use Rattle.std.proofs.Common.{◌≡◌, None, take}
-use Rattle.extent_list.specs.ExtentLists.{tags_of}
-use Rattle.extent_list.specs.Listing.{too_few_of}
-use Rattle.extent_list.proofs.EachTag.{over}
+use Rattle.extent_list.{specs.ExtentLists.tags_of, specs.Listing.too_few_of, proofs.EachTag.over}
 use Rattle.extent_list.proofs.tag_rules.some_left.Given as goal
 
 abbrev pub invariant-loop-i : goal.invariant-loop-i

@@ -1,6 +1,5 @@
 use Rattle.std.proofs.Common.{◌+◌, ◌*◌, arith, length, rules}
-use Rattle.dcd_base.proofs.Filling.{filled}
-use Rattle.dcd_base.proofs.WholeExtents.{extents_fit}
+use Rattle.dcd_base.proofs.{Filling.filled, WholeExtents.extents_fit}
 use Rattle.fm_payloads.proofs.ManagerWritten.{placed_spelled}
 use Rattle.fm_payloads.proofs.placing.fill_placed.Goals as goal
 

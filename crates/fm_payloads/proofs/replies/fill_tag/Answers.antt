@@ -1,7 +1,5 @@
 use Rattle.std.proofs.Common.{◌++◌, replicate, rules, [], ◌∷◌, append_assoc, ◌∙◌}
-use Rattle.dcd_base.specs.Words.{flag_of}
-use Rattle.dcd_base.specs.Layouts.{u16_bytes}
-use Rattle.dcd_base.proofs.Filling.{around, filled}
+use Rattle.dcd_base.{specs.Words.flag_of, specs.Layouts.u16_bytes, proofs.Filling.around, proofs.Filling.filled}
 use Rattle.fm_payloads.specs.ManagerPayloads.{tag_bytes}
 use Rattle.fm_payloads.proofs.replies.fill_tag.Goals as goal
 

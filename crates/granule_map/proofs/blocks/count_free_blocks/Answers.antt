@@ -1,7 +1,5 @@
-use Rattle.std.proofs.Common.{arith}
-use Rattle.std.proofs.Math.Nat.{div-le_self}
-use Rattle.granule_map.specs.Blocks.{block_count, is_block_free}
-use Rattle.granule_map.proofs.Stretches.{count_none, count_stretch}
+use Rattle.std.proofs.{Common.arith, Math.Nat.div-le_self}
+use Rattle.granule_map.{specs.Blocks.block_count, specs.Blocks.is_block_free, proofs.Stretches.count_none, proofs.Stretches.count_stretch}
 use Rattle.granule_map.proofs.blocks.count_free_blocks.Goals as goal
 
 pub overflow_add-free : goal.overflow_add-free

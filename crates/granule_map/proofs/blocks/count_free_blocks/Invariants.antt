@@ -1,5 +1,4 @@
-use Rattle.std.proofs.Common.{◌≡◌, ◌+◌, ◌-◌, ◌≤◌, length}
-use Rattle.std.specs.List.{filter, range_with_len}
+use Rattle.std.{proofs.Common.◌≡◌, proofs.Common.◌+◌, proofs.Common.◌-◌, proofs.Common.◌≤◌, proofs.Common.length, specs.List.filter, specs.List.range_with_len}
 use Rattle.granule_map.specs.Blocks.{block_count, free_block_count, is_block_free}
 use Rattle.granule_map.proofs.blocks.count_free_blocks.Given as goal
 

@@ -1,7 +1,5 @@
-use Rattle.std.proofs.Common.{arith}
-use Rattle.std.proofs.Math.Nat.{div-le_self}
-use Rattle.granule_map.specs.Blocks.{block_count, is_block_free}
-use Rattle.granule_map.proofs.Stretches.{longest_none, longest_stretch}
+use Rattle.std.proofs.{Common.arith, Math.Nat.div-le_self}
+use Rattle.granule_map.{specs.Blocks.block_count, specs.Blocks.is_block_free, proofs.Stretches.longest_none, proofs.Stretches.longest_stretch}
 use Rattle.granule_map.proofs.blocks.longest_run_of.Goals as goal
 
 pub overflow_add-at : goal.overflow_add-at

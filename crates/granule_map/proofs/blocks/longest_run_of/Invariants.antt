@@ -1,6 +1,5 @@
 use Rattle.std.proofs.Common.{◌≡◌, ◌-◌, ◌≤◌, max}
-use Rattle.granule_map.specs.Blocks.{block_count, is_block_free, longest_free_run}
-use Rattle.granule_map.proofs.RunSteps.{longest_from}
+use Rattle.granule_map.{specs.Blocks.block_count, specs.Blocks.is_block_free, specs.Blocks.longest_free_run, proofs.RunSteps.longest_from}
 use Rattle.granule_map.proofs.blocks.longest_run_of.Given as goal
 
 abbrev pub invariant-loop-blocks : goal.invariant-loop-blocks

@@ -1,7 +1,5 @@
-use Rattle.std.proofs.Common.{◌∙◌, sym, arith}
-use Rattle.std.proofs.Math.Nat.{div-le_self}
-use Rattle.granule_map.specs.Blocks.{block_count, is_block_free}
-use Rattle.granule_map.proofs.Stretches.{lowest_here, lowest_later, lowest_none}
+use Rattle.std.proofs.{Common.◌∙◌, Common.sym, Common.arith, Math.Nat.div-le_self}
+use Rattle.granule_map.{specs.Blocks.block_count, specs.Blocks.is_block_free, proofs.Stretches.lowest_here, proofs.Stretches.lowest_later, proofs.Stretches.lowest_none}
 use Rattle.granule_map.proofs.blocks.lowest_block.Goals as goal
 
 pub overflow_add-at : goal.overflow_add-at

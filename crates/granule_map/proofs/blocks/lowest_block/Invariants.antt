@@ -1,6 +1,5 @@
 use Rattle.std.proofs.Common.{◌≡◌, ◌-◌, ◌≤◌}
-use Rattle.granule_map.specs.Blocks.{block_count, is_block_free, lowest_free_run}
-use Rattle.granule_map.proofs.RunSteps.{lowest_start}
+use Rattle.granule_map.{specs.Blocks.block_count, specs.Blocks.is_block_free, specs.Blocks.lowest_free_run, proofs.RunSteps.lowest_start}
 use Rattle.granule_map.proofs.blocks.lowest_block.Given as goal
 
 abbrev pub invariant-loop-blocks : goal.invariant-loop-blocks

@@ -1,7 +1,6 @@
 use Rattle.std.proofs.Common.{◌+◌, ◌-◌, subst, arith}
-use Rattle.granule_map.specs.StateLists.{is_free_at}
+use Rattle.granule_map.{proofs.AreaBlocks.IsReached, proofs.AreaBlocks.none_between, proofs.AreaBlocks.stretch_between, specs.StateLists.is_free_at}
 use Rattle.granule_map.specs.Stretches.{AreWhole, IsNext, fails}
-use Rattle.granule_map.proofs.AreaBlocks.{IsReached, none_between, stretch_between}
 use Rattle.granule_map.proofs.blocks.next_blocks.Goals as goal
 
 pub returns-in-Some : goal.returns-in-Some

@@ -1,6 +1,5 @@
 use Rattle.std.proofs.Common.{◌∙◌, ◌++◌, List, ℕ, take, drop, replicate, ap, sym, append_assoc}
-use Rattle.std.proofs.lemmas.List.{drop-drop}
-use Rattle.std.proofs.lemmas.Simd.{put_chunk_is}
+use Rattle.std.proofs.lemmas.{List.drop-drop, Simd.put_chunk_is}
 use Rattle.granule_map.proofs.marks.fill_8.Goals as goal
 
 pub returns : goal.returns

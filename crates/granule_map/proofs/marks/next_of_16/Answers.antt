@@ -1,6 +1,5 @@
-use Rattle.std.proofs.Common.{◌≡◌, ◌≤◌, eqb, length, length-drop, drop, refl, arith}
+use Rattle.std.proofs.{Common.◌≡◌, Common.◌≤◌, Common.eqb, Common.length, Common.length-drop, Common.drop, Common.refl, Common.arith, lemmas.Simd.bitmask_splat, lemmas.Simd.length-chunk}
 use Rattle.std.specs.Int.{w8}
-use Rattle.std.proofs.lemmas.Simd.{bitmask_splat, length-chunk}
 use lib.Lanes.{chunk}
 use Rattle.memchr.specs.Find.{is_byte}
 use Rattle.granule_map.proofs.NextOfLanes.{next_none, next_some}

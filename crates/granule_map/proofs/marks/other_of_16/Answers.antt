@@ -1,6 +1,5 @@
 use Rattle.std.proofs.Common.{◌≡◌, ◌≤◌, ℕ, Bool, eqb, not, length, length-drop, drop, refl, arith}
-use Rattle.std.specs.Int.{w8}
-use Rattle.std.proofs.lemmas.Simd.{bitmask_splat, length-chunk}
+use Rattle.std.{specs.Int.w8, proofs.lemmas.Simd.bitmask_splat, proofs.lemmas.Simd.length-chunk}
 use lib.Lanes.{chunk}
 use Rattle.granule_map.proofs.NextOfLanes.{next_none, next_some}
 use Rattle.granule_map.proofs.marks.other_of_16.Goals as goal

@@ -1,6 +1,5 @@
 use Rattle.std.proofs.Common.{◌≡◌, ◌+◌, ◌-◌, ◌<◌, ◌≤◌, ◌∙◌, Bool, cond, List, ℕ, length, get_or, set, take, drop, refl, ap, subst, sym, inl, inr, arith, rules}
-use Rattle.std.proofs.lemmas.Bool.{cases_lt}
-use Rattle.std.specs.Prelude.{count_by}
+use Rattle.std.{proofs.lemmas.Bool.cases_lt, specs.Prelude.count_by}
 use Rattle.dcd_base.specs.declared.media.Run.{Run}
 use Rattle.memchr.specs.Find.{is_byte}
 use Rattle.granule_map.proofs.PartsReplaced.{counted_alike, most_if, replaced, replaced_more, replaced_next, replaced_on, replaced_past}

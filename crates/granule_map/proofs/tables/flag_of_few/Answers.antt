@@ -1,7 +1,6 @@
 use Rattle.std.proofs.Common.{◌≡◌, ◌+◌, ◌<◌, ◌≤◌, ◌∙◌, ℕ, ap, eqb, get_or, length, refl, subst, sym, true, arith}
 use Rattle.dcd_base.specs.declared.media.Run.{Run}
-use Rattle.granule_map.specs.Parts.{flags_in}
-use Rattle.granule_map.proofs.Flags.{flag_at}
+use Rattle.granule_map.{specs.Parts.flags_in, proofs.Flags.flag_at}
 use Rattle.granule_map.proofs.tables.flag_of_few.Goals as goal
 
 pub returns-then-are_few_alike : goal.returns-then-are_few_alike

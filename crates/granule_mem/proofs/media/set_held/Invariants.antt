@@ -1,5 +1,4 @@
-use Rattle.std.proofs.Common.{◌≡◌, ℕ, length, get_or, leb, ltb, cond}
-use Rattle.std.specs.Prelude.{◌&&◌}
+use Rattle.std.{proofs.Common.◌≡◌, proofs.Common.ℕ, proofs.Common.length, proofs.Common.get_or, proofs.Common.leb, proofs.Common.ltb, proofs.Common.cond, specs.Prelude.◌&&◌}
 use Rattle.granule_mem.proofs.media.set_held.Given as goal
 
 abbrev pub invariant-loop-granule : goal.invariant-loop-granule

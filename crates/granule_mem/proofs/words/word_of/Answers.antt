@@ -1,5 +1,4 @@
-use Rattle.std.proofs.Common.{ap, sym}
-use Rattle.std.specs.Prelude.{unwrap_or}
+use Rattle.std.{proofs.Common.ap, proofs.Common.sym, specs.Prelude.unwrap_or}
 use Rattle.granule_mem.proofs.Few.{found_at}
 use Rattle.granule_mem.proofs.words.word_of.Goals as goal
 

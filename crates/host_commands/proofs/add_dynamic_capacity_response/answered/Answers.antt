@@ -2,10 +2,8 @@ use Rattle.std.proofs.Common.{◌∙◌, ◌∷◌, [], ap, map}
 use Rattle.cci_codec.specs.dcd_base.specs.declared.steps.LogId.{LogId}
 use Rattle.event_records.specs.declared.events.EventKind.{EventKind}
 use Rattle.extent_list.specs.ExtentLists.{tags_of}
-use Rattle.device_commands.specs.device_rules.specs.Outcomes.{records_of_extents}
-use Rattle.device_commands.specs.Drafts.{as_records}
-use Rattle.host_commands.specs.AddDynamicCapacityResponse.{told_extents}
-use Rattle.host_commands.proofs.AddDynamicCapacityResponse.{told_each}
+use Rattle.device_commands.specs.{device_rules.specs.Outcomes.records_of_extents, Drafts.as_records}
+use Rattle.host_commands.{specs.AddDynamicCapacityResponse.told_extents, proofs.AddDynamicCapacityResponse.told_each}
 use Rattle.host_commands.proofs.add_dynamic_capacity_response.answered.Goals as goal
 
 pub returns : goal.returns

@@ -1,5 +1,4 @@
-use Rattle.std.proofs.Common.{◌∙◌, ◌++◌, List, [], ap, arith, map}
-use Rattle.std.proofs.lemmas.Result.{IfOk-weaker}
+use Rattle.std.proofs.{Common.◌∙◌, Common.◌++◌, Common.List, Common.[], Common.ap, Common.arith, Common.map, lemmas.Result.IfOk-weaker}
 use Rattle.cci_codec.specs.dcd_base.specs.declared.capacity.Extent.{Extent}
 use Rattle.extent_list.specs.ExtentLists.{marked}
 use Rattle.journal_core.specs.declared.outcome.HeldKind.{HeldKind}

@@ -1,9 +1,7 @@
 use Rattle.std.proofs.Common.{◌++◌, length, ap, refl, ◌∙◌, arith}
 use Rattle.extent_list.specs.media_map.specs.region_config.specs.Configurations.{Configuration}
 use Rattle.host_payloads.specs.HostPayloads.{configuration_payload}
-use Rattle.device_commands.specs.device_rules.proofs.Homes.{regions_same}
-use Rattle.device_commands.specs.declared.draft.Draft.{Draft}
-use Rattle.device_commands.proofs.ShownRegions.{region_known, region_past}
+use Rattle.device_commands.{specs.device_rules.proofs.Homes.regions_same, specs.declared.draft.Draft.Draft, proofs.ShownRegions.region_known, proofs.ShownRegions.region_past}
 use Rattle.host_commands.proofs.get_dynamic_capacity_configuration.get_configuration.Goals as goal
 
 pub returns-then-first-regions : goal.returns-then-first-regions

@@ -1,8 +1,6 @@
-use Rattle.std.proofs.Common.{◌≡◌, rules}
-use Rattle.std.specs.declared.result.Result.TheVariants.{Ok}
+use Rattle.std.{proofs.Common.◌≡◌, proofs.Common.rules, specs.declared.result.Result.TheVariants.Ok}
 use Rattle.cci_codec.specs.dcd_base.specs.declared.steps.LogId.{LogId}
-use Rattle.host_payloads.specs.HostPayloads.{host_request}
-use Rattle.host_payloads.specs.declared.requests.HostRequest.{HostRequest}
+use Rattle.host_payloads.specs.{HostPayloads.host_request, declared.requests.HostRequest.HostRequest}
 use Rattle.device_commands.specs.device_rules.specs.EventCommands.{events_reply, log_named}
 use Rattle.host_commands.proofs.HostDrafts.{message_drafted, only_drafts}
 use Rattle.host_commands.proofs.host_messages.host_draft.Goals as goal

@@ -1,7 +1,6 @@
-use Rattle.std.proofs.lemmas.Result.{IfOk-weaker}
+use Rattle.std.proofs.{lemmas.Result.IfOk-weaker, Common.◌∙◌}
 use Rattle.host_commands.proofs.ReleaseDynamicCapacity.{held_release, leaving_granular, released_drafts}
 use Rattle.host_commands.proofs.release_dynamic_capacity.given_back.Goals as goal
-use Rattle.std.proofs.Common.{◌∙◌}
 
 pub released-requires-clause-granular : goal.released-requires-clause-granular
 released-requires-clause-granular c =

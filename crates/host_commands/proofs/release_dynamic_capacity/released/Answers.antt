@@ -1,9 +1,6 @@
 use Rattle.std.proofs.Common.{◌++◌, ◌∙◌, List, ap, false, map}
-use Rattle.journal_core.specs.declared.outcome.Effect.{Effect}
-use Rattle.journal_core.specs.declared.outcome.HeldKind.{HeldKind}
-use Rattle.device_commands.specs.device_rules.specs.ReleaseOutcomes.{removals}
-use Rattle.device_commands.specs.device_rules.specs.ResponseOutcomes.{unhold}
-use Rattle.device_commands.specs.Drafts.{as_records}
+use Rattle.journal_core.specs.declared.outcome.{Effect.Effect, HeldKind.HeldKind}
+use Rattle.device_commands.specs.{device_rules.specs.ReleaseOutcomes.removals, device_rules.specs.ResponseOutcomes.unhold, Drafts.as_records}
 use Rattle.host_commands.proofs.release_dynamic_capacity.released.Goals as goal
 
 pub returns : goal.returns

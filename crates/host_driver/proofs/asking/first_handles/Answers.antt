@@ -1,5 +1,4 @@
-use Rattle.std.proofs.Common.{◌≡◌, IfOk, subst, take}
-use Rattle.std.proofs.lemmas.List.{take_min}
+use Rattle.std.proofs.{Common.◌≡◌, Common.IfOk, Common.subst, Common.take, lemmas.List.take_min}
 use Rattle.host_driver.proofs.asking.first_handles.Goals as goal
 
 pub returns : goal.returns

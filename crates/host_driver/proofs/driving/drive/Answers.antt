@@ -1,12 +1,6 @@
-use Rattle.std.proofs.Common.{◌<◌, [], refl, subst, sym, ◌∙◌}
-use Rattle.std.specs.Prelude.{IsTrue}
-use Rattle.std.specs.List.{list_all}
-use Rattle.region_config.specs.Configurations.{Configuration}
-use Rattle.region_config.specs.Soundness.{IsSound}
-use Rattle.host_driver.specs.Journals.{is_fitting}
-use Rattle.host_driver.specs.Running.{HasLines}
-use Rattle.host_driver.specs.Standing.{Standing, first_standing}
-use Rattle.host_driver.proofs.InTurns.{all_driven, lines_first}
+use Rattle.std.{proofs.Common.◌<◌, proofs.Common.[], proofs.Common.refl, proofs.Common.subst, proofs.Common.sym, proofs.Common.◌∙◌, specs.Prelude.IsTrue, specs.List.list_all}
+use Rattle.region_config.specs.{Configurations.Configuration, Soundness.IsSound}
+use Rattle.host_driver.{specs.Journals.is_fitting, specs.Running.HasLines, specs.Standing.Standing, specs.Standing.first_standing, proofs.InTurns.all_driven, proofs.InTurns.lines_first}
 use Rattle.host_driver.proofs.driving.drive.Goals as goal
 
 pub run_all-requires-clause-begun : goal.run_all-requires-clause-begun

@@ -1,8 +1,7 @@
 use Rattle.std.proofs.Common.{ap, subst, sym, ◌∙◌}
 use Rattle.device_plain.specs.isolation_laws.specs.Solo.{acts_for}
 use Rattle.report.specs.script_codec.specs.declared.script_line.Line.{Line}
-use Rattle.host_driver.specs.Running.{HasLine}
-use Rattle.host_driver.proofs.InTurns.{own_line}
+use Rattle.host_driver.{specs.Running.HasLine, proofs.InTurns.own_line}
 use Rattle.host_driver.proofs.driving.run_act.Goals as goal
 
 pub take_turn-requires-clause-other : goal.take_turn-requires-clause-other

@@ -1,10 +1,8 @@
 use Rattle.std.proofs.Common.{◌≡◌, ◌+◌, length, take, ap, arith, subst, sym, ◌∙◌}
-use Rattle.std.specs.Prelude.{IsTrue}
-use Rattle.std.proofs.lemmas.List.{length-take-le, take_all}
+use Rattle.std.{specs.Prelude.IsTrue, proofs.lemmas.List.length-take-le, proofs.lemmas.List.take_all}
 use Rattle.region_config.specs.Configurations.{Configuration}
-use Rattle.host_driver.specs.Journals.{is_fitting}
+use Rattle.host_driver.{proofs.InTurns.as_own, proofs.InTurns.line_fits, proofs.InTurns.lines_more, proofs.InTurns.one_line_more, proofs.InTurns.rest_own, specs.Journals.is_fitting}
 use Rattle.host_driver.specs.Running.{HasLines}
-use Rattle.host_driver.proofs.InTurns.{as_own, line_fits, lines_more, one_line_more, rest_own}
 use Rattle.host_driver.proofs.driving.run_all.Goals as goal
 
 pub run_line-requires-clause-turns : goal.run_line-requires-clause-turns

@@ -1,5 +1,4 @@
-use Rattle.host_driver.proofs.InTurns.{busy_then, line_done, turns_then}
-use Rattle.host_driver.proofs.Turns.{rests}
+use Rattle.host_driver.proofs.{InTurns.busy_then, InTurns.line_done, InTurns.turns_then, Turns.rests}
 use Rattle.host_driver.proofs.driving.take_turn.Goals as goal
 
 pub settle-requires-clause-turns : goal.settle-requires-clause-turns

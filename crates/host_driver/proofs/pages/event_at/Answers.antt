@@ -1,6 +1,5 @@
 use Rattle.std.proofs.Common.{ap, ◌∙◌}
-use Rattle.host_driver.specs.Pages.{event_in}
-use Rattle.host_driver.proofs.Events.{event_is}
+use Rattle.host_driver.{specs.Pages.event_in, proofs.Events.event_is}
 use Rattle.host_driver.proofs.pages.event_at.Goals as goal
 
 pub returns-in-Ok-clause-found : goal.returns-in-Ok-clause-found

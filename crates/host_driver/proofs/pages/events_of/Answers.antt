@@ -1,9 +1,7 @@
-use Rattle.std.proofs.Common.{◌≡◌, ap, sym, ◌∙◌, take, None, arith}
-use Rattle.std.proofs.lemmas.Result.{err_from_is_err_and}
+use Rattle.std.proofs.{Common.◌≡◌, Common.ap, Common.sym, Common.◌∙◌, Common.take, Common.None, Common.arith, lemmas.Result.err_from_is_err_and}
 use Rattle.event_records.specs.Records.{record_fault}
 use Rattle.dcd_base.proofs.Pieces.{pieces-goes_on}
-use Rattle.host_driver.specs.Pages.{bad_at, event_in}
-use Rattle.host_driver.proofs.Events.{bad_behind, bad_here}
+use Rattle.host_driver.{specs.Pages.bad_at, specs.Pages.event_in, proofs.Events.bad_behind, proofs.Events.bad_here}
 use Rattle.host_driver.proofs.pages.events_of.Goals as goal
 
 pub returns-in_err-event-clause-fault : goal.returns-in_err-event-clause-fault

@@ -1,5 +1,4 @@
-use Rattle.std.proofs.Common.{◌≡◌, take}
-use Rattle.std.specs.Prelude.{flat_map}
+use Rattle.std.{proofs.Common.◌≡◌, proofs.Common.take, specs.Prelude.flat_map}
 use Rattle.host_driver.specs.Planning.{extent_line}
 use Rattle.host_driver.proofs.printing.extent_lines.Given as goal
 

@@ -1,13 +1,9 @@
-use Rattle.std.proofs.Common.{◌≡◌, ap, subst, sym, ◌∙◌}
-use Rattle.std.specs.Prelude.{IsTrue}
-use Rattle.std.proofs.lemmas.Bool.{lt-ltb}
+use Rattle.std.{proofs.Common.◌≡◌, proofs.Common.ap, proofs.Common.subst, proofs.Common.sym, proofs.Common.◌∙◌, specs.Prelude.IsTrue, proofs.lemmas.Bool.lt-ltb}
 use Rattle.dcd_base.specs.declared.steps.Actor.{Actor}
 use Rattle.device_plain.specs.Devices.{Enters}
-use Rattle.journal_core.specs.Entries.{fits}
-use Rattle.journal_core.specs.declared.acts.Act.{Act}
+use Rattle.journal_core.specs.{Entries.fits, declared.acts.Act.Act}
 use Rattle.report.specs.script_codec.specs.Covering.{pass_of}
-use Rattle.host_driver.specs.Standing.{Standing, next_fault, taking, took_fault}
-use Rattle.host_driver.proofs.InTurns.{answers, asks, takes_it}
+use Rattle.host_driver.{specs.Standing.Standing, specs.Standing.next_fault, specs.Standing.taking, specs.Standing.took_fault, proofs.InTurns.answers, proofs.InTurns.asks, proofs.InTurns.takes_it}
 use Rattle.host_driver.proofs.settling.ask.Goals as goal
 
 pub next_request-requires : goal.next_request-requires

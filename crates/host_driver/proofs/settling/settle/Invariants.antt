@@ -1,5 +1,4 @@
-use Rattle.host_driver.specs.Running.{HasGone, work_of}
-use Rattle.host_driver.proofs.InTurns.{left_to_do}
+use Rattle.host_driver.{specs.Running.HasGone, specs.Running.work_of, proofs.InTurns.left_to_do}
 use Rattle.host_driver.proofs.settling.settle.Given as goal
 
 -- The driver has gone on, and there is less to do each time.

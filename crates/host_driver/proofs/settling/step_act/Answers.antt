@@ -1,6 +1,5 @@
 use Rattle.std.proofs.Common.{subst, ap, ◌∙◌}
-use Rattle.region_config.specs.Configurations.{Configuration}
-use Rattle.region_config.specs.Soundness.{IsSound}
+use Rattle.region_config.specs.{Configurations.Configuration, Soundness.IsSound}
 use Rattle.device_plain.specs.Devices.{Enters}
 use Rattle.report.specs.script_codec.specs.Covering.{pass_of}
 use Rattle.host_driver.proofs.settling.step_act.Goals as goal

@@ -1,7 +1,5 @@
-use Rattle.std.proofs.Common.{subst}
-use Rattle.std.proofs.lemmas.List.{take_all}
-use Rattle.host_driver.specs.Spelling.{AreSpelled}
-use Rattle.host_driver.proofs.Spelled.{entry_more}
+use Rattle.std.proofs.{Common.subst, lemmas.List.take_all}
+use Rattle.host_driver.{specs.Spelling.AreSpelled, proofs.Spelled.entry_more}
 use Rattle.host_driver.proofs.spelling.are_spelled.Goals as goal
 
 pub loop-entry-preserved : goal.loop-entry-preserved

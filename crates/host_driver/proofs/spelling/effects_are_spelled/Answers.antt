@@ -1,7 +1,6 @@
 use Rattle.std.proofs.Common.{ap, subst, ◌∙◌}
 use Rattle.device_plain.specs.kept_journal.specs.Tokens.{without_extents}
-use Rattle.host_driver.specs.Spelling.{AreSpelledIn}
-use Rattle.host_driver.proofs.Spelled.{spelled_alone}
+use Rattle.host_driver.{specs.Spelling.AreSpelledIn, proofs.Spelled.spelled_alone}
 use Rattle.host_driver.proofs.spelling.effects_are_spelled.Goals as goal
 
 pub returns : goal.returns

@@ -1,9 +1,7 @@
-use Rattle.std.proofs.Common.{◌∙◌, ap, subst, sym}
-use Rattle.std.proofs.lemmas.Option.{none-some, same_Some}
+use Rattle.std.proofs.{Common.◌∙◌, Common.ap, Common.subst, Common.sym, lemmas.Option.none-some, lemmas.Option.same_Some}
 use Rattle.device_plain.specs.kept_journal.specs.Lending.{lent, lent_entry}
 use Rattle.journal_core.specs.declared.entries.Entry.{Entry}
-use Rattle.host_driver.specs.Spelling.{AreSpelledIn}
-use Rattle.host_driver.proofs.Spelled.{spelled_alone}
+use Rattle.host_driver.{specs.Spelling.AreSpelledIn, proofs.Spelled.spelled_alone}
 use Rattle.host_driver.proofs.spelling.last_is_spelled.Goals as goal
 
 pub returns-in-Some : goal.returns-in-Some

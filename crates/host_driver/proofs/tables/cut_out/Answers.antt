@@ -1,8 +1,6 @@
-use Rattle.std.proofs.Common.{◌≡◌, true, false, sym, ap, ◌∙◌}
-use Rattle.std.specs.Prelude.{if◌then◌else◌}
+use Rattle.std.{proofs.Common.◌≡◌, proofs.Common.true, proofs.Common.false, proofs.Common.sym, proofs.Common.ap, proofs.Common.◌∙◌, specs.Prelude.if◌then◌else◌}
 use Rattle.extent_list.specs.ExtentLists.{cut}
-use Rattle.host_driver.specs.Driving.{is_below_end}
-use Rattle.host_driver.proofs.Finding.{can_cut, cut_of, stays_whole}
+use Rattle.host_driver.{specs.Driving.is_below_end, proofs.Finding.can_cut, proofs.Finding.cut_of, proofs.Finding.stays_whole}
 use Rattle.host_driver.proofs.tables.cut_out.Goals as goal
 
 pub cut-requires-clause-in_addresses : goal.cut-requires-clause-in_addresses

@@ -1,6 +1,5 @@
 use Rattle.std.proofs.Common.{◌≡◌, ◌+◌, ◌++◌, [], ap, sym, ◌∙◌}
-use Rattle.host_lists.specs.Tags.{capped, extents_before, tag_count}
-use Rattle.host_lists.proofs.Offered.{extents_before_more, list_at}
+use Rattle.host_lists.{specs.Tags.capped, specs.Tags.extents_before, specs.Tags.tag_count, proofs.Offered.extents_before_more, proofs.Offered.list_at}
 use Rattle.host_lists.proofs.tag_counts.all_tags.Goals as goal
 
 pub loop-i-preserved : goal.loop-i-preserved

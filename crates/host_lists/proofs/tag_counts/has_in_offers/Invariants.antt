@@ -1,5 +1,4 @@
-use Rattle.std.proofs.Common.{◌≡◌, false, take}
-use Rattle.std.specs.List.{list_any}
+use Rattle.std.{proofs.Common.◌≡◌, proofs.Common.false, proofs.Common.take, specs.List.list_any}
 use Rattle.extent_list.specs.ExtentLists.{has_extent_of}
 use Rattle.host_lists.proofs.tag_counts.has_in_offers.Given as goal
 

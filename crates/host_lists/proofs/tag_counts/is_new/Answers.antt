@@ -1,8 +1,6 @@
-use Rattle.std.proofs.Common.{◌≡◌, ◌++◌, true, not, ap, sym, refl, ◌∙◌}
-use Rattle.std.proofs.lemmas.Bool.{and_right}
+use Rattle.std.proofs.{Common.◌≡◌, Common.◌++◌, Common.true, Common.not, Common.ap, Common.sym, Common.refl, Common.◌∙◌, lemmas.Bool.and_right}
 use Rattle.extent_list.specs.ExtentLists.{has_extent_of}
-use Rattle.host_lists.specs.Tags.{extents_before}
-use Rattle.host_lists.proofs.Offered.{has_extent_before}
+use Rattle.host_lists.{specs.Tags.extents_before, proofs.Offered.has_extent_before}
 use Rattle.host_lists.proofs.tag_counts.is_new.Goals as goal
 
 pub returns-then-is_tag_of_last : goal.returns-then-is_tag_of_last

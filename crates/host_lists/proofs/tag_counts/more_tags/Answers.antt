@@ -1,8 +1,8 @@
 use Rattle.std.proofs.Common.{◌≡◌, ◌+◌, ◌++◌, ap, get_or, sym, take, ◌∙◌}
-use Rattle.host_lists.specs.Tags.{capped, extents_before, is_new, tag_count}
 use Rattle.host_lists.proofs.TagCounting.{capped_new, no_extent, one_more, tag_count_more}
-use Rattle.host_lists.proofs.tag_counts.more_tags.Goals as goal
 use Rattle.host_lists.proofs.tag_counts.more_tags.Goals.{then-is_new, else-is_new}
+use Rattle.host_lists.specs.Tags.{capped, extents_before, is_new, tag_count}
+use Rattle.host_lists.proofs.tag_counts.more_tags.Goals as goal
 
 pub loop-i-preserved : goal.loop-i-preserved
 loop-i-preserved c =

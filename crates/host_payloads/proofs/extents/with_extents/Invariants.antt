@@ -1,5 +1,4 @@
-use Rattle.std.proofs.Common.{◌≡◌, ◌++◌, flat_map, take}
-use Rattle.std.specs.List.{AllByRecursion}
+use Rattle.std.{proofs.Common.◌≡◌, proofs.Common.◌++◌, proofs.Common.flat_map, proofs.Common.take, specs.List.AllByRecursion}
 use Rattle.event_records.specs.dcd_base.specs.Extents.{extent_bytes, FitsExtent}
 use Rattle.host_payloads.proofs.extents.with_extents.Given as goal
 

@@ -1,5 +1,4 @@
-use Rattle.std.proofs.Common.{◌≡◌, ◌+◌, ◌*◌, ◌++◌, flat_map, take}
-use Rattle.std.specs.List.{AllByRecursion}
+use Rattle.std.{proofs.Common.◌≡◌, proofs.Common.◌+◌, proofs.Common.◌*◌, proofs.Common.◌++◌, proofs.Common.flat_map, proofs.Common.take, specs.List.AllByRecursion}
 use Rattle.host_payloads.specs.HostPayloads.{listed_bytes, FitsListed}
 use Rattle.host_payloads.proofs.list_writing.put_all_listed.Given as goal
 

@@ -1,5 +1,4 @@
-use Rattle.isolation_laws.specs.Solo.{block_item}
-use Rattle.isolation_laws.proofs.ItemLists.{filtered_more}
+use Rattle.isolation_laws.{specs.Solo.block_item, proofs.ItemLists.filtered_more}
 use Rattle.isolation_laws.proofs.deliveries.append_blocks.Goals as goal
 
 pub loop-i-preserved : goal.loop-i-preserved

@@ -1,5 +1,4 @@
-use Rattle.std.proofs.Common.{◌≡◌, ◌++◌, take}
-use Rattle.std.specs.Prelude.{filter_map}
+use Rattle.std.{proofs.Common.◌≡◌, proofs.Common.◌++◌, proofs.Common.take, specs.Prelude.filter_map}
 use Rattle.isolation_laws.specs.Solo.{block_item}
 use Rattle.isolation_laws.proofs.deliveries.append_blocks.Given as goal
 

@@ -1,6 +1,5 @@
 use Rattle.std.proofs.Common.{[]}
-use Rattle.isolation_laws.specs.Solo.{told_by}
-use Rattle.isolation_laws.proofs.ItemLists.{filtered_more}
+use Rattle.isolation_laws.{specs.Solo.told_by, proofs.ItemLists.filtered_more}
 use Rattle.isolation_laws.proofs.deliveries.told_of.Goals as goal
 
 pub loop-i-preserved : goal.loop-i-preserved

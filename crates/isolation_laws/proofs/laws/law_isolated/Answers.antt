@@ -1,5 +1,4 @@
-use Rattle.isolation_laws.proofs.CleanJournals.{legal_clean}
-use Rattle.isolation_laws.proofs.Isolation.{isolated_by}
+use Rattle.isolation_laws.proofs.{CleanJournals.legal_clean, Isolation.isolated_by}
 use Rattle.isolation_laws.proofs.laws.law_isolated.Goals as goal
 
 pub returns : goal.returns

@@ -1,5 +1,4 @@
-use Rattle.std.proofs.Common.{ap, ◌∙◌, arith, ◌≡◌, ◌+◌, suc, drop}
-use Rattle.std.proofs.Math.Seq.{drop-length}
+use Rattle.std.proofs.{Common.ap, Common.◌∙◌, Common.arith, Common.◌≡◌, Common.◌+◌, Common.suc, Common.drop, Math.Seq.drop-length}
 use Rattle.journal_check.proofs.Reading.{found_behind, none_behind}
 use Rattle.journal_check.proofs.claims.behind.Goals as goal
 

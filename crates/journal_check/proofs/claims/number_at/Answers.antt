@@ -1,8 +1,6 @@
 use Rattle.std.proofs.Common.{◌≡◌, ◌+◌, ◌-◌, ◌*◌, min, get_or, drop, ℕ, sym, ap, ◌∙◌, arith}
-use Rattle.std.proofs.lemmas.Bool.{ne_eqb}
-use Rattle.std.proofs.lemmas.List.{drop_more}
-use Rattle.journal_check.specs.Claims.{first_word}
-use Rattle.journal_check.proofs.Reading.{number_after, one_digit}
+use Rattle.std.proofs.lemmas.{Bool.ne_eqb, List.drop_more}
+use Rattle.journal_check.{specs.Claims.first_word, proofs.Reading.number_after, proofs.Reading.one_digit}
 use Rattle.journal_check.proofs.claims.number_at.Goals as goal
 
 pub loop-byte-preserved : goal.loop-byte-preserved

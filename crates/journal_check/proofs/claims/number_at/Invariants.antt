@@ -1,7 +1,6 @@
 use Rattle.std.proofs.Common.{◌≡◌, ◌≤◌, min, drop}
 use Rattle.edge_io.specs.Words.{number_in}
-use Rattle.journal_check.specs.Claims.{first_word}
-use Rattle.journal_check.proofs.Reading.{number_after}
+use Rattle.journal_check.{specs.Claims.first_word, proofs.Reading.number_after}
 use Rattle.journal_check.proofs.claims.number_at.Given as goal
 
 abbrev pub invariant-loop-byte : goal.invariant-loop-byte

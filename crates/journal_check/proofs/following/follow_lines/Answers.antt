@@ -2,11 +2,8 @@ use Rattle.std.proofs.Common.{◌≡◌, ◌≢◌, ◌+◌, ◌-◌, ◌++◌, 
 use Rattle.std.proofs.lemmas.List.{length_push}
 use Rattle.journal_core.specs.declared.entries.Entry.{Entry}
 use Rattle.report.specs.script_codec.specs.Covering.{is_line}
-use Rattle.journal_check.specs.Claims.{behind_line}
-use Rattle.journal_check.specs.Following.{IsNextInPass, without_line}
-use Rattle.journal_check.specs.Fronts.{IsDue, undone_of}
-use Rattle.journal_check.proofs.Claiming.{IsClaimedTo, one_claimed}
-use Rattle.journal_check.proofs.Followed.{followed_some, written_back}
+use Rattle.journal_check.{proofs.Claiming.IsClaimedTo, proofs.Claiming.one_claimed, proofs.Followed.followed_some, proofs.Followed.written_back, specs.Claims.behind_line}
+use Rattle.journal_check.specs.{Following.IsNextInPass, Following.without_line, Fronts.IsDue, Fronts.undone_of}
 use Rattle.journal_check.proofs.following.follow_lines.Goals as goal
 
 pub returns-in-None-clause-followed : goal.returns-in-None-clause-followed

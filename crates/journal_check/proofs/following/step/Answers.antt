@@ -1,10 +1,7 @@
-use Rattle.std.proofs.Common.{◌≡◌, ◌-◌, ◌<◌, length, Some, ap, arith}
+use Rattle.std.proofs.{Common.◌≡◌, Common.◌-◌, Common.◌<◌, Common.length, Common.Some, Common.ap, Common.arith, lemmas.Option.slice_get_within}
 use Rattle.std.specs.Prelude.{slice_get}
-use Rattle.std.proofs.lemmas.Option.{slice_get_within}
 use Rattle.report.specs.script_codec.specs.declared.script_line.Line.{Line}
-use Rattle.journal_check.proofs.Due.{line_read, mark_read}
-use Rattle.journal_check.proofs.Passing.{line_fits}
-use Rattle.journal_check.proofs.Stepping.{mark_no_act, stepped}
+use Rattle.journal_check.proofs.{Due.line_read, Due.mark_read, Passing.line_fits, Stepping.mark_no_act, Stepping.stepped}
 use Rattle.journal_check.proofs.following.step.Goals as goal
 
 pub enter-requires : goal.enter-requires

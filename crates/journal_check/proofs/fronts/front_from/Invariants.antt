@@ -1,5 +1,4 @@
-use Rattle.std.proofs.Common.{◌≡◌, ℕ, ◌-◌, ◌<◌, ◌≤◌, false, length, Some}
-use Rattle.std.specs.Prelude.{slice_get}
+use Rattle.std.{proofs.Common.◌≡◌, proofs.Common.ℕ, proofs.Common.◌-◌, proofs.Common.◌<◌, proofs.Common.◌≤◌, proofs.Common.false, proofs.Common.length, proofs.Common.Some, specs.Prelude.slice_get}
 use Rattle.report.specs.script_codec.specs.declared.script_line.Line.{Line}
 use Rattle.journal_check.specs.Following.{has_pass}
 use Rattle.journal_check.proofs.fronts.front_from.Given as goal

@@ -1,7 +1,5 @@
-use Rattle.std.proofs.Common.{◌≡◌, ◌-◌, length, Some, ap, ◌∙◌, arith}
-use Rattle.std.specs.Prelude.{slice_get}
-use Rattle.report.specs.script_codec.specs.declared.script_line.Line.{Line}
-use Rattle.report.specs.script_codec.specs.Covering.{pass_of}
+use Rattle.std.{proofs.Common.◌≡◌, proofs.Common.◌-◌, proofs.Common.length, proofs.Common.Some, proofs.Common.ap, proofs.Common.◌∙◌, proofs.Common.arith, specs.Prelude.slice_get}
+use Rattle.report.specs.script_codec.specs.{declared.script_line.Line.Line, Covering.pass_of}
 use Rattle.journal_check.proofs.Due.{known, line_read, mark_read, none_elsewhere, none_mark, none_past, none_zero}
 use Rattle.journal_check.proofs.fronts.pass_due.Goals.{then-number-eq0-via-then-number-eq0, then-number-eq0-via-else-number-eq0+then-number-lines}
 use Rattle.journal_check.proofs.fronts.pass_due.Goals as goal

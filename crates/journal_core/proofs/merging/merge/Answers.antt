@@ -1,9 +1,8 @@
 use Rattle.std.proofs.Common.{◌≡◌, ◌++◌, ap, sym, subst, ◌∙◌, rules, arith, length}
-use Rattle.std.specs.Prelude.{flat_map, filter}
+use Rattle.std.{specs.Prelude.flat_map, specs.Prelude.filter, proofs.lemmas.List.Sorted.answers_always}
 use Rattle.cci_codec.specs.dcd_base.specs.declared.steps.Stamp.{Stamp}
-use Rattle.std.proofs.lemmas.List.Sorted.{answers_always}
-use Rattle.journal_core.specs.Merging.{Rising, has_stamp}
 use Rattle.journal_core.proofs.Merges.{stamp_key, sorted_by_stamp, merged_at, merged-rising, merged-ties, merged-length}
+use Rattle.journal_core.specs.Merging.{Rising, has_stamp}
 use Rattle.journal_core.proofs.merging.merge.Goals as goal
 
 is_merged : goal.returns-clause-merged

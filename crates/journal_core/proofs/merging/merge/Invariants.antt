@@ -1,5 +1,4 @@
-use Rattle.std.proofs.Common.{◌≡◌, ◌++◌, take}
-use Rattle.std.specs.Prelude.{flat_map}
+use Rattle.std.{proofs.Common.◌≡◌, proofs.Common.◌++◌, proofs.Common.take, specs.Prelude.flat_map}
 use Rattle.journal_core.proofs.merging.merge.Given as goal
 
 abbrev pub invariant-loop-shard : goal.invariant-loop-shard

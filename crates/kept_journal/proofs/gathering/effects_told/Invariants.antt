@@ -1,6 +1,5 @@
 use Rattle.std.proofs.Common.{◌≡◌, [], ◌++◌, None, length}
-use Rattle.kept_journal.specs.Slots.{no_slots}
-use Rattle.kept_journal.specs.Tokens.{effects_from, tokens_in}
+use Rattle.kept_journal.specs.{Slots.no_slots, Tokens.effects_from, Tokens.tokens_in}
 use Rattle.kept_journal.proofs.gathering.effects_told.Given as goal
 
 abbrev pub invariant-loop-token : goal.invariant-loop-token

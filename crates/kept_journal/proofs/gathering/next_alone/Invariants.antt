@@ -1,5 +1,4 @@
-use Rattle.std.proofs.Common.{◌≡◌, length}
-use Rattle.std.specs.Prelude.{filter_map}
+use Rattle.std.{proofs.Common.◌≡◌, proofs.Common.length, specs.Prelude.filter_map}
 use Rattle.kept_journal.specs.Tokens.{effect_alone}
 use Rattle.kept_journal.proofs.gathering.next_alone.Given as goal
 

@@ -1,9 +1,7 @@
 use Rattle.std.proofs.Common.{rules, ◌≡◌, ℕ, List, [], ◌∷◌, None, sym, ap, ◌∙◌}
 use Rattle.std.proofs.lemmas.List.{nil_from_length}
-use Rattle.kept_journal.specs.Slots.{slots_in}
-use Rattle.kept_journal.specs.Tokens.{tokens_in}
+use Rattle.kept_journal.{proofs.CoderSteps.kind_ends, proofs.CoderSteps.nothing_told, proofs.CoderSteps.place_alone, proofs.CoderSteps.place_told, specs.Slots.slots_in, specs.Tokens.tokens_in}
 use Rattle.kept_journal.specs.declared.tokens.Token.{Token}
-use Rattle.kept_journal.proofs.CoderSteps.{kind_ends, nothing_told, place_alone, place_told}
 use Rattle.kept_journal.proofs.reading.next_token.Goals as goal
 
 pub returns-then-first-ge128 : goal.returns-then-first-ge128

@@ -1,6 +1,5 @@
 use Rattle.std.proofs.Common.{◌≡◌, None, length}
-use Rattle.kept_journal.specs.Slots.{slots_in}
-use Rattle.kept_journal.specs.Tokens.{tokens_in}
+use Rattle.kept_journal.specs.{Slots.slots_in, Tokens.tokens_in}
 use Rattle.kept_journal.proofs.reading.next_token.Given as goal
 
 abbrev pub invariant-loop-first : goal.invariant-loop-first

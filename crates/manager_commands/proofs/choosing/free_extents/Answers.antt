@@ -1,23 +1,15 @@
 use Rattle.std.proofs.Common.{◌≡◌, ◌+◌, ◌%◌, ◌/◌, ◌==◌, ◌||◌, not, true, false, List, Result, Ok, Err, length, arith, ap, subst, sym, ◌∙◌}
-use Rattle.std.specs.Prelude.{All}
-use Rattle.std.proofs.lemmas.Bool.{eq-eqb, ne_eqb}
-use Rattle.event_records.specs.dcd_base.specs.declared.capacity.Extent.{Extent}
-use Rattle.event_records.specs.dcd_base.specs.declared.media.Run.{Run}
-use Rattle.extent_list.specs.dcd_codes.specs.Rules.{ByRow}
-use Rattle.extent_list.specs.dcd_codes.specs.declared.refusals.Refusal.{Refusal}
-use Rattle.device_state.specs.device_rules.specs.Adding.{area_of}
-use Rattle.selection.specs.granule_map.specs.Blocks.{free_block_count, longest_free_run}
-use Rattle.selection.specs.granule_map.specs.StateLists.{is_free_at}
-use Rattle.extent_list.specs.media_map.specs.Places.{IsRun}
-use Rattle.extent_list.specs.media_map.specs.region_config.specs.Granules.{first_granule, region_granules}
+use Rattle.std.{specs.Prelude.All, proofs.lemmas.Bool.eq-eqb, proofs.lemmas.Bool.ne_eqb}
+use Rattle.event_records.specs.dcd_base.specs.declared.{capacity.Extent.Extent, media.Run.Run}
+use Rattle.extent_list.specs.{dcd_codes.specs.Rules.ByRow, dcd_codes.specs.declared.refusals.Refusal.Refusal, media_map.specs.Places.IsRun}
+use Rattle.extent_list.specs.media_map.specs.region_config.{proofs.Faultless.granules_within, specs.Granules.first_granule, specs.Granules.region_granules}
 use Rattle.extent_list.specs.media_map.specs.region_config.specs.declared.region_spec.RegionSpec.{RegionSpec}
-use Rattle.extent_list.specs.media_map.specs.region_config.proofs.Faultless.{granules_within}
-use Rattle.selection.specs.Selections.{contiguous_runs, free_runs, too_few_free}
-use Rattle.manager_commands.specs.InitiateDynamicCapacityAdd.{length_rule, length_runs, tagged_runs}
+use Rattle.device_state.specs.device_rules.specs.Adding.{area_of}
+use Rattle.selection.specs.{Selections.contiguous_runs, Selections.free_runs, Selections.too_few_free, granule_map.specs.Blocks.free_block_count, granule_map.specs.Blocks.longest_free_run}
+use Rattle.selection.specs.granule_map.specs.StateLists.{is_free_at}
 use Rattle.manager_commands.proofs.BlockChoices.{LieInRegion, between_few, between_runs, found_free, found_in, found_together, of_length}
-use Rattle.manager_commands.proofs.Rows.{refused}
-use Rattle.manager_commands.proofs.TaggedRuns.{length-tagged_runs}
-use Rattle.manager_commands.proofs.choosing.free_extents.Goals.{else-asked-eq0-2, then-asked-eq0-2}
+use Rattle.manager_commands.proofs.{Rows.refused, TaggedRuns.length-tagged_runs, choosing.free_extents.Goals.else-asked-eq0-2, choosing.free_extents.Goals.then-asked-eq0-2}
+use Rattle.manager_commands.specs.InitiateDynamicCapacityAdd.{length_rule, length_runs, tagged_runs}
 use Rattle.manager_commands.proofs.choosing.free_extents.Goals as goal
 
 pub tagged_runs-requires-clause-runs : goal.tagged_runs-requires-clause-runs

@@ -1,7 +1,5 @@
 use Rattle.std.proofs.Common.{◌≡◌, ◌+◌, ℕ, List, [], ◌∷◌, ◌++◌, get_or, length, map, take, arith, ap, sym, ◌∙◌}
-use Rattle.std.specs.Prelude.{if◌then◌else◌}
-use Rattle.std.specs.List.{enumerate_from}
-use Rattle.std.proofs.lemmas.List.{length-take-le, map-append, take_more}
+use Rattle.std.{specs.Prelude.if◌then◌else◌, specs.List.enumerate_from, proofs.lemmas.List.length-take-le, proofs.lemmas.List.map-append, proofs.lemmas.List.take_more}
 use Rattle.event_records.specs.dcd_base.specs.declared.capacity.Extent.{Extent}
 use Rattle.device_state.specs.host_lists.proofs.TagCounting.{no_extent}
 use Rattle.manager_commands.proofs.ListPages.{numbered_more}

@@ -1,10 +1,7 @@
-use Rattle.std.proofs.Common.{not, sym, ap, true, ◌∙◌}
-use Rattle.std.specs.Prelude.{if◌then◌else◌, [], ◌∷◌}
-use Rattle.extent_list.specs.dcd_codes.specs.Rules.{◌breaks◌}
-use Rattle.extent_list.specs.dcd_codes.specs.declared.rules.Rule.{Rule}
+use Rattle.std.{proofs.Common.not, proofs.Common.sym, proofs.Common.ap, proofs.Common.true, proofs.Common.◌∙◌, specs.Prelude.if◌then◌else◌, specs.Prelude.[], specs.Prelude.◌∷◌}
+use Rattle.extent_list.specs.dcd_codes.specs.{Rules.◌breaks◌, declared.rules.Rule.Rule}
 use Rattle.journal_core.specs.declared.outcome.Effect.{Effect}
-use Rattle.manager_commands.proofs.Drafting.{changes_alone}
-use Rattle.manager_commands.proofs.TagReadings.{tags_open, tags_referenced}
+use Rattle.manager_commands.proofs.{Drafting.changes_alone, TagReadings.tags_open, TagReadings.tags_referenced}
 use Rattle.manager_commands.proofs.dynamic_capacity_add_reference.add_reference.Goals as goal
 
 pub returns-then-not-is_live : goal.returns-then-not-is_live

@@ -3,14 +3,8 @@ use Rattle.std.proofs.Math.Facts.{Fits-of_lt}
 use Rattle.fm_payloads.specs.ManagerPayloads.{tags_payload}
 use Rattle.journal_core.specs.Entries.{effects}
 use Rattle.tag_refs.specs.Tables.{tag_view}
-use Rattle.device_state.specs.device_rules.specs.Settings.{page}
-use Rattle.device_state.specs.device_rules.specs.TagCommands.{tag_seen}
-use Rattle.device_state.specs.device_rules.specs.Tags.{open_tags}
-use Rattle.manager_commands.proofs.Drafting.{payload_alone}
-use Rattle.manager_commands.proofs.TagReadings.{tags_length, tags_seen}
-use Rattle.manager_commands.proofs.ListPages.{page_map}
-use Rattle.manager_commands.proofs.Reached.{few_entries}
-use Rattle.manager_commands.proofs.Rows.{kept_rule, not_below}
+use Rattle.device_state.specs.device_rules.specs.{Settings.page, TagCommands.tag_seen, Tags.open_tags}
+use Rattle.manager_commands.proofs.{Drafting.payload_alone, TagReadings.tags_length, TagReadings.tags_seen, ListPages.page_map, Reached.few_entries, Rows.kept_rule, Rows.not_below}
 use Rattle.manager_commands.proofs.dynamic_capacity_list_tags.list_tags.Goals as goal
 
 pub overflow_cast-total : goal.overflow_cast-total

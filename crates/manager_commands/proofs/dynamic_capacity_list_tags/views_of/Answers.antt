@@ -1,5 +1,4 @@
-use Rattle.std.proofs.Common.{◌+◌, ◌∷◌, [], ◌++◌, ap, length, sym, ◌∙◌}
-use Rattle.std.proofs.lemmas.List.{length_push}
+use Rattle.std.proofs.{Common.◌+◌, Common.◌∷◌, Common.[], Common.◌++◌, Common.ap, Common.length, Common.sym, Common.◌∙◌, lemmas.List.length_push}
 use Rattle.tag_refs.specs.Tables.{tag_view}
 use Rattle.manager_commands.proofs.ListPages.{page_more}
 use Rattle.manager_commands.proofs.dynamic_capacity_list_tags.views_of.Goals as goal

@@ -1,7 +1,6 @@
 use Rattle.std.proofs.Common.{not, refl, sym, ap, false, List, [], ◌∷◌, ◌++◌, ◌∙◌}
 use Rattle.event_records.specs.dcd_base.specs.declared.capacity.Tag.{Tag}
-use Rattle.extent_list.specs.dcd_codes.specs.Rules.{◌breaks◌}
-use Rattle.extent_list.specs.dcd_codes.specs.declared.rules.Rule.{Rule}
+use Rattle.extent_list.specs.dcd_codes.specs.{Rules.◌breaks◌, declared.rules.Rule.Rule}
 use Rattle.journal_core.specs.declared.outcome.Effect.{Effect}
 use Rattle.manager_commands.proofs.TagReadings.{tags_referenced}
 use Rattle.manager_commands.proofs.dynamic_capacity_remove_reference.remove_reference.Goals as goal

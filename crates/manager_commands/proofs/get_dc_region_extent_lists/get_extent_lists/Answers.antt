@@ -1,11 +1,7 @@
-use Rattle.std.proofs.Common.{◌≡◌, ◌<◌, arith, ap, length, ◌∙◌}
-use Rattle.std.proofs.Math.Facts.{Fits-of_lt}
+use Rattle.std.proofs.{Common.◌≡◌, Common.◌<◌, Common.arith, Common.ap, Common.length, Common.◌∙◌, Math.Facts.Fits-of_lt}
 use Rattle.extent_list.specs.HostLists.{Lists}
-use Rattle.device_state.specs.device_rules.specs.Views.{view_of}
-use Rattle.device_state.specs.declared.parts.HostPart.{HostPart}
-use Rattle.manager_commands.proofs.Drafting.{payload_alone}
-use Rattle.manager_commands.proofs.Reached.{few_extents, hosts_known}
-use Rattle.manager_commands.proofs.Rows.{both_kept, kept_rule, not_below, not_up_to}
+use Rattle.device_state.specs.{device_rules.specs.Views.view_of, declared.parts.HostPart.HostPart}
+use Rattle.manager_commands.proofs.{Drafting.payload_alone, Reached.few_extents, Reached.hosts_known, Rows.both_kept, Rows.kept_rule, Rows.not_below, Rows.not_up_to}
 use Rattle.manager_commands.proofs.get_dc_region_extent_lists.get_extent_lists.Goals as goal
 
 pub overflow_cast-total : goal.overflow_cast-total

@@ -1,8 +1,7 @@
 use Rattle.std.proofs.Common.{◌++◌, ap, refl, ◌∙◌}
 use Rattle.fm_payloads.specs.ManagerPayloads.{info_payload}
 use Rattle.journal_core.specs.Entries.{effects}
-use Rattle.manager_commands.proofs.Drafting.{payload_alone}
-use Rattle.manager_commands.proofs.FreeGranules.{dirty_counted, free_counted}
+use Rattle.manager_commands.proofs.{Drafting.payload_alone, FreeGranules.dirty_counted, FreeGranules.free_counted}
 use Rattle.manager_commands.proofs.get_dcd_info.get_info.Goals as goal
 
 pub returns : goal.returns

@@ -1,5 +1,4 @@
-use Rattle.std.proofs.Common.{◌≡◌, ◌++◌, take}
-use Rattle.std.specs.Prelude.{flat_map}
+use Rattle.std.{proofs.Common.◌≡◌, proofs.Common.◌++◌, proofs.Common.take, specs.Prelude.flat_map}
 use Rattle.host_payloads.specs.HostPayloads.{region_bytes}
 use Rattle.manager_commands.proofs.get_host_dc_region_configuration.append_regions.Given as goal
 

@@ -1,8 +1,6 @@
-use Rattle.std.proofs.Common.{◌≡◌, ◌<◌, arith, length, sym, ◌∙◌}
-use Rattle.std.proofs.lemmas.Bool.{le-leb}
+use Rattle.std.proofs.{Common.◌≡◌, Common.◌<◌, Common.arith, Common.length, Common.sym, Common.◌∙◌, lemmas.Bool.le-leb}
 use Rattle.device_state.specs.device_rules.specs.Views.{view_of}
-use Rattle.manager_commands.proofs.Drafting.{payload_alone}
-use Rattle.manager_commands.proofs.Reached.{few_extents, host_count, hosts_known, regions_known}
+use Rattle.manager_commands.proofs.{Drafting.payload_alone, Reached.few_extents, Reached.host_count, Reached.hosts_known, Reached.regions_known}
 use Rattle.manager_commands.proofs.Rows.{both_kept, broken_rule, first_kept, kept_rule, not_up_to}
 use Rattle.manager_commands.proofs.get_host_dc_region_configuration.get_regions.Goals as goal
 

@@ -1,15 +1,11 @@
-use Rattle.std.proofs.Common.{◌≡◌, ◌++◌, ℕ, List, ap, length, map, ◌∙◌}
+use Rattle.std.proofs.{Common.◌≡◌, Common.◌++◌, Common.ℕ, Common.List, Common.ap, Common.length, Common.map, Common.◌∙◌, lemmas.List.length-map}
 use Rattle.std.specs.Prelude.{flat_map}
-use Rattle.std.proofs.lemmas.List.{length-map}
 use Rattle.device_state.specs.declared.parts.HostPart.{HostPart}
-use Rattle.fm_payloads.specs.ManagerPayloads.{regions_head}
-use Rattle.host_payloads.specs.HostPayloads.{counts_bytes, region_bytes}
-use Rattle.host_payloads.specs.declared.views.RegionView.{RegionView}
 use Rattle.device_state.specs.device_rules.specs.Settings.{host_counts, manager_flags, page, region_seen}
-use Rattle.extent_list.specs.media_map.specs.region_config.specs.Configurations.{Configuration}
-use Rattle.extent_list.specs.media_map.specs.region_config.specs.Granules.{regions_of}
-use Rattle.manager_commands.proofs.ListPages.{flat_map-map}
-use Rattle.manager_commands.proofs.Reached.{blocks_long}
+use Rattle.fm_payloads.specs.ManagerPayloads.{regions_head}
+use Rattle.host_payloads.specs.{HostPayloads.counts_bytes, HostPayloads.region_bytes, declared.views.RegionView.RegionView}
+use Rattle.extent_list.specs.media_map.specs.region_config.specs.{Configurations.Configuration, Granules.regions_of}
+use Rattle.manager_commands.proofs.{ListPages.flat_map-map, Reached.blocks_long}
 use Rattle.manager_commands.proofs.get_host_dc_region_configuration.payload_of.Goals as goal
 
 pub returns : goal.returns

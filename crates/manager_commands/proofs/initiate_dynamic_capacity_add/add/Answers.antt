@@ -1,13 +1,10 @@
 use Rattle.std.proofs.Common.{◌≡◌, ◌<◌, sym, ◌∙◌}
 use Rattle.manager_commands.proofs.InitiateDynamicCapacityAdd.{drafts_offered, named_parts, row_choice, row_names, row_room, row_tag, runs_are_few, runs_are_runs}
-use Rattle.device_state.specs.device_rules.specs.Adding.{add_outcome, add_rule}
-use Rattle.device_state.specs.device_rules.specs.Views.{view_of}
+use Rattle.manager_commands.proofs.{Reached.few_extents, Reached.states_count, Rows.made_of, Rows.passed_on}
+use Rattle.manager_commands.specs.InitiateDynamicCapacityAdd.{DraftOffers, chosen_rule, offered_now, room_rule}
+use Rattle.device_state.specs.{device_rules.specs.Adding.add_outcome, device_rules.specs.Adding.add_rule, device_rules.specs.Views.view_of, StateAfter.part_of}
 use Rattle.device_commands.specs.Drafts.{Drafts}
 use Rattle.journal_core.specs.Entries.{effects}
-use Rattle.manager_commands.specs.InitiateDynamicCapacityAdd.{DraftOffers, chosen_rule, offered_now, room_rule}
-use Rattle.device_state.specs.StateAfter.{part_of}
-use Rattle.manager_commands.proofs.Rows.{made_of, passed_on}
-use Rattle.manager_commands.proofs.Reached.{few_extents, states_count}
 use Rattle.manager_commands.proofs.initiate_dynamic_capacity_add.add.Goals as goal
 
 pub new_extents-requires-clause-runs : goal.new_extents-requires-clause-runs

@@ -1,6 +1,4 @@
-use Rattle.std.proofs.Common.{[], arith, ap, sym, refl, ◌∙◌}
-use Rattle.std.proofs.lemmas.List.Folds.{list_any_at, list_any_more}
-use Rattle.std.proofs.lemmas.Option.{get_or_from_slice_get}
+use Rattle.std.proofs.{Common.[], Common.arith, Common.ap, Common.sym, Common.refl, Common.◌∙◌, lemmas.List.Folds.list_any_at, lemmas.List.Folds.list_any_more, lemmas.Option.get_or_from_slice_get}
 use Rattle.extent_list.specs.ExtentLists.{has_extent_of}
 use Rattle.manager_commands.proofs.initiate_dynamic_capacity_add.is_offered.Goals as goal
 

@@ -1,5 +1,4 @@
-use Rattle.std.proofs.Common.{◌≡◌, false, take}
-use Rattle.std.specs.List.{list_any}
+use Rattle.std.{proofs.Common.◌≡◌, proofs.Common.false, proofs.Common.take, specs.List.list_any}
 use Rattle.extent_list.specs.ExtentLists.{has_extent_of}
 use Rattle.manager_commands.proofs.initiate_dynamic_capacity_add.is_offered.Given as goal
 

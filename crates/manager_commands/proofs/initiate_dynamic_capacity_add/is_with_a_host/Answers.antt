@@ -1,9 +1,7 @@
 use Rattle.std.proofs.Common.{◌≡◌, ◌<◌, ◌+◌, ◌||◌, ℕ, Bool, false, [], ◌∷◌, get_or, arith, ap, sym, ◌∙◌}
+use Rattle.std.proofs.lemmas.List.{Folds.list_any-append, Folds.list_any_at, FromFn.get_or-range_with_len, FromFn.length-range_with_len}
 use Rattle.std.specs.List.{list_any, range_with_len}
-use Rattle.std.proofs.lemmas.List.FromFn.{get_or-range_with_len, length-range_with_len}
-use Rattle.std.proofs.lemmas.List.Folds.{list_any-append, list_any_at}
-use Rattle.manager_commands.proofs.ListPages.{from_zero}
-use Rattle.manager_commands.specs.InitiateDynamicCapacityAdd.{lists_have}
+use Rattle.manager_commands.{proofs.ListPages.from_zero, specs.InitiateDynamicCapacityAdd.lists_have}
 use Rattle.device_state.specs.StateAfter.{part_of}
 use Rattle.manager_commands.proofs.initiate_dynamic_capacity_add.is_with_a_host.Goals as goal
 

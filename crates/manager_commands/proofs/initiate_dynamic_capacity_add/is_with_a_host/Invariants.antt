@@ -1,5 +1,4 @@
-use Rattle.std.proofs.Common.{◌≡◌, false}
-use Rattle.std.specs.List.{list_any, range_with_len}
+use Rattle.std.{proofs.Common.◌≡◌, proofs.Common.false, specs.List.list_any, specs.List.range_with_len}
 use Rattle.manager_commands.specs.InitiateDynamicCapacityAdd.{lists_have}
 use Rattle.device_state.specs.StateAfter.{part_of}
 use Rattle.manager_commands.proofs.initiate_dynamic_capacity_add.is_with_a_host.Given as goal

@@ -1,6 +1,5 @@
 use Rattle.std.proofs.Common.{◌∙◌, ◌++◌, ◌∷◌, [], List, ap, map}
-use Rattle.event_records.specs.dcd_base.specs.declared.steps.LogId.{LogId}
-use Rattle.event_records.specs.declared.events.EventKind.{EventKind}
+use Rattle.event_records.specs.{dcd_base.specs.declared.steps.LogId.LogId, declared.events.EventKind.EventKind}
 use Rattle.journal_core.specs.declared.outcome.Effect.{Effect}
 use Rattle.device_state.specs.device_rules.specs.Outcomes.{records_of_extents}
 use Rattle.device_commands.specs.Drafts.{as_records}

@@ -1,8 +1,7 @@
 use Rattle.std.proofs.Common.{◌≡◌, length, arith, ap, ◌∙◌}
 use Rattle.release_core.specs.Removals.{by_tag_rule}
 use Rattle.manager_commands.proofs.InitiateDynamicCapacityRelease.{few_tagged}
-use Rattle.device_state.specs.StateAfter.{part_of}
-use Rattle.device_state.specs.declared.parts.HostPart.{HostPart}
+use Rattle.device_state.specs.{StateAfter.part_of, declared.parts.HostPart.HostPart}
 use Rattle.manager_commands.proofs.initiate_dynamic_capacity_release.extents_meant.Goals as goal
 
 pub returns-then-flags-eq0-clause-few : goal.returns-then-flags-eq0-clause-few

@@ -1,10 +1,7 @@
 use Rattle.std.proofs.lemmas.Bool.{eq-eqb, ne_eqb}
 use Rattle.std.proofs.Common.{◌≡◌, ◌<◌, bit_and, not, arith, ap, false, true, sym, ◌∙◌}
-use Rattle.device_state.specs.device_rules.specs.Outcomes.{log_full}
-use Rattle.device_state.specs.device_rules.specs.ReleaseOutcomes.{is_forced}
-use Rattle.device_state.specs.device_rules.specs.Views.{view_of}
-use Rattle.manager_commands.proofs.InitiateDynamicCapacityRelease.{drafts_asked, drafts_taken}
-use Rattle.manager_commands.proofs.Reached.{hosts_known}
+use Rattle.device_state.specs.device_rules.specs.{Outcomes.log_full, ReleaseOutcomes.is_forced, Views.view_of}
+use Rattle.manager_commands.proofs.{InitiateDynamicCapacityRelease.drafts_asked, InitiateDynamicCapacityRelease.drafts_taken, Reached.hosts_known}
 use Rattle.manager_commands.proofs.initiate_dynamic_capacity_release.removal_of.Goals as goal
 
 pub returns-in_ok-by_request : goal.returns-in_ok-by_request

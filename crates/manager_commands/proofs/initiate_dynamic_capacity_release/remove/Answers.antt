@@ -1,13 +1,10 @@
 use Rattle.std.proofs.Common.{List, Option, arith, sym, subst}
 use Rattle.event_records.specs.dcd_base.specs.declared.capacity.Extent.{Extent}
-use Rattle.extent_list.specs.dcd_codes.specs.Rules.{ByRow}
-use Rattle.extent_list.specs.dcd_codes.specs.declared.rules.Rule.{Rule}
+use Rattle.extent_list.specs.dcd_codes.specs.{Rules.ByRow, declared.rules.Rule.Rule}
 use Rattle.device_commands.specs.Drafts.{Drafts}
-use Rattle.device_state.specs.device_rules.specs.ReleaseOutcomes.{remove_rule}
-use Rattle.device_state.specs.device_rules.specs.Views.{view_of}
+use Rattle.device_state.specs.device_rules.specs.{ReleaseOutcomes.remove_rule, Views.view_of}
 use Rattle.manager_commands.proofs.InitiateDynamicCapacityRelease.{chosen_host, meant_granular, removal_row}
-use Rattle.manager_commands.proofs.Reached.{few_extents, hosts_known}
-use Rattle.manager_commands.specs.InitiateDynamicCapacityRelease.{removal_outcome}
+use Rattle.manager_commands.{proofs.Reached.few_extents, proofs.Reached.hosts_known, specs.InitiateDynamicCapacityRelease.removal_outcome}
 use Rattle.manager_commands.proofs.initiate_dynamic_capacity_release.remove.Goals as goal
 
 pub extents_meant-requires-clause-few : goal.extents_meant-requires-clause-few

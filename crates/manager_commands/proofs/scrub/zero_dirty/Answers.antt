@@ -1,8 +1,7 @@
 use Rattle.std.proofs.Common.{◌≡◌, length, map, ap, min, ◌∙◌, arith}
-use Rattle.selection.specs.granule_map.specs.StateLists.{is_dirty_at}
+use Rattle.selection.specs.granule_map.specs.{StateLists.is_dirty_at, Choices.joined}
 use Rattle.journal_core.specs.declared.outcome.Effect.{Effect}
 use Rattle.extent_list.specs.media_map.specs.region_config.specs.Granules.{same_region}
-use Rattle.selection.specs.granule_map.specs.Choices.{joined}
 use Rattle.sanitizer.specs.Turns.{granules_of_runs, lowest_dirty, run_of_pair}
 use Rattle.manager_commands.proofs.ZeroedGranules.{is_zeroed, no_more}
 use Rattle.manager_commands.proofs.scrub.zero_dirty.Goals as goal

@@ -1,12 +1,9 @@
 use Rattle.std.proofs.Common.{◌≡◌, ◌<◌, ◌+◌, List, get_or, arith, ap, sym, ◌∙◌}
-use Rattle.std.specs.List.{range_with_len}
-use Rattle.std.proofs.lemmas.List.FromFn.{get_or-range_with_len, length-range_with_len}
+use Rattle.std.{specs.List.range_with_len, proofs.lemmas.List.FromFn.get_or-range_with_len, proofs.lemmas.List.FromFn.length-range_with_len}
 use Rattle.event_records.specs.dcd_base.specs.declared.ids.HostId.{HostId}
-use Rattle.extent_list.specs.dcd_codes.proofs.RuleSteps.{each_in_found}
-use Rattle.extent_list.specs.dcd_codes.specs.Rules.{each_in}
+use Rattle.extent_list.specs.dcd_codes.{proofs.RuleSteps.each_in_found, specs.Rules.each_in}
 use Rattle.device_state.specs.device_rules.specs.Outcomes.{log_full}
-use Rattle.manager_commands.proofs.ListPages.{from_zero, take_range}
-use Rattle.manager_commands.proofs.Rows.{each_in-push}
+use Rattle.manager_commands.proofs.{ListPages.from_zero, ListPages.take_range, Rows.each_in-push}
 use Rattle.manager_commands.proofs.set_dc_region_configuration.first_full.Goals as goal
 
 pub returns-in-Some : goal.returns-in-Some

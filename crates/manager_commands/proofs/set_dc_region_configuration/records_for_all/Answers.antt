@@ -1,8 +1,6 @@
-use Rattle.std.proofs.Common.{◌∷◌, [], ◌++◌, map, ap, sym, ◌∙◌}
+use Rattle.std.proofs.{Common.◌∷◌, Common.[], Common.◌++◌, Common.map, Common.ap, Common.sym, Common.◌∙◌, lemmas.List.map-append}
 use Rattle.std.specs.List.{range_with_len}
-use Rattle.std.proofs.lemmas.List.{map-append}
-use Rattle.manager_commands.specs.SetDcRegionConfiguration.{told_to}
-use Rattle.manager_commands.proofs.ListPages.{from_zero}
+use Rattle.manager_commands.{specs.SetDcRegionConfiguration.told_to, proofs.ListPages.from_zero}
 use Rattle.manager_commands.proofs.set_dc_region_configuration.records_for_all.Goals as goal
 
 pub loop-host-preserved : goal.loop-host-preserved

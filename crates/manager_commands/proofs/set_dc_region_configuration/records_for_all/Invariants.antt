@@ -1,5 +1,4 @@
-use Rattle.std.proofs.Common.{◌≡◌}
-use Rattle.std.specs.List.{range_with_len}
+use Rattle.std.{proofs.Common.◌≡◌, specs.List.range_with_len}
 use Rattle.manager_commands.specs.SetDcRegionConfiguration.{told_to_all}
 use Rattle.manager_commands.proofs.set_dc_region_configuration.records_for_all.Given as goal
 

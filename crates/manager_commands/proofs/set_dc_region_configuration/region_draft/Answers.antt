@@ -1,11 +1,8 @@
 use Rattle.std.proofs.Common.{◌<◌, ◌∷◌, [], ◌++◌, List, map, arith, ap, subst, sym, ◌∙◌}
-use Rattle.std.specs.Prelude.{All}
-use Rattle.std.specs.List.{range_with_len}
+use Rattle.std.specs.{Prelude.All, List.range_with_len}
 use Rattle.journal_core.specs.declared.outcome.Effect.{Effect}
-use Rattle.device_commands.specs.Drafts.{as_records}
-use Rattle.device_commands.specs.declared.log_records.LogRecords.{LogRecords}
-use Rattle.manager_commands.specs.SetDcRegionConfiguration.{told_to_all}
-use Rattle.manager_commands.proofs.SetDcRegionConfiguration.{told_known, told_records}
+use Rattle.device_commands.specs.{Drafts.as_records, declared.log_records.LogRecords.LogRecords}
+use Rattle.manager_commands.{specs.SetDcRegionConfiguration.told_to_all, proofs.SetDcRegionConfiguration.told_known, proofs.SetDcRegionConfiguration.told_records}
 use Rattle.manager_commands.proofs.set_dc_region_configuration.region_draft.Goals as goal
 
 pub returns : goal.returns

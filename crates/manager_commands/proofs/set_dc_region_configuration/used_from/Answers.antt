@@ -1,8 +1,5 @@
 use Rattle.std.proofs.Common.{◌≡◌, ◌≤◌, ◌+◌, ℕ, Bool, true, false, not, [], ◌∷◌, cond, arith, ap, ◌∙◌}
-use Rattle.std.specs.Prelude.{count_by}
-use Rattle.std.specs.List.{range_with_len}
-use Rattle.std.proofs.Math.Facts.{Fits-of_lt}
-use Rattle.std.proofs.lemmas.List.Sums.{sum_by-append}
+use Rattle.std.{specs.Prelude.count_by, specs.List.range_with_len, proofs.Math.Facts.Fits-of_lt, proofs.lemmas.List.Sums.sum_by-append}
 use Rattle.selection.specs.granule_map.specs.StateLists.{is_free_at}
 use Rattle.manager_commands.proofs.ListPages.{range_more}
 use Rattle.manager_commands.proofs.set_dc_region_configuration.used_from.Goals as goal

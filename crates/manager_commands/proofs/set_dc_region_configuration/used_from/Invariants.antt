@@ -1,6 +1,4 @@
-use Rattle.std.proofs.Common.{◌≡◌, ◌≤◌, not}
-use Rattle.std.specs.Prelude.{count_by}
-use Rattle.std.specs.List.{range_with_len}
+use Rattle.std.{proofs.Common.◌≡◌, proofs.Common.◌≤◌, proofs.Common.not, specs.Prelude.count_by, specs.List.range_with_len}
 use Rattle.selection.specs.granule_map.specs.StateLists.{is_free_at}
 use Rattle.manager_commands.proofs.set_dc_region_configuration.used_from.Given as goal
 

@@ -1,7 +1,5 @@
 use Rattle.std.proofs.Common.{ap, sym, ◌∙◌}
-use Rattle.media_map.specs.Places.{is_within}
-use Rattle.media_map.specs.declared.bounds.Bounds.{Bounds}
-use Rattle.media_map.proofs.RunLemmas.{region_at_is}
+use Rattle.media_map.{specs.Places.is_within, specs.declared.bounds.Bounds.Bounds, proofs.RunLemmas.region_at_is}
 use Rattle.media_map.proofs.places.has_address.Goals as goal
 
 pub returns-clause-only : goal.returns-clause-only

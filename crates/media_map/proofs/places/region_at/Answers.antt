@@ -1,7 +1,6 @@
 use Rattle.std.proofs.Common.{◌∙◌, length, sym, arith}
 use Rattle.region_config.proofs.GranuleLemmas.{find_range}
-use Rattle.media_map.specs.Places.{has_address}
-use Rattle.media_map.proofs.PlaceLemmas.{find_none}
+use Rattle.media_map.{specs.Places.has_address, proofs.PlaceLemmas.find_none}
 use Rattle.media_map.proofs.places.region_at.Goals as goal
 
 pub returns-then-has_address-clause-value : goal.returns-then-has_address-clause-value

@@ -1,14 +1,8 @@
 use Rattle.std.proofs.Common.{◌≡◌, ℕ, ◌+◌, List, [], ◌∷◌, ap, arith, drop, length, sym, ◌∙◌}
 use Rattle.std.proofs.lemmas.Bool.{eqb-true}
-use Rattle.extent_list.specs.dcd_codes.specs.dcd_base.specs.declared.capacity.Extent.{Extent}
-use Rattle.extent_list.specs.dcd_codes.specs.dcd_base.specs.declared.ids.HostId.{HostId}
-use Rattle.extent_list.specs.ExtentLists.{count_in}
-use Rattle.extent_list.specs.Listing.{too_many_extents}
-use Rattle.extent_list.specs.media_map.specs.region_config.specs.Configurations.{Configuration}
-use Rattle.extent_list.specs.dcd_codes.specs.Rules.{each_in}
-use Rattle.offer_core.proofs.Rows.{one_broken}
-use Rattle.offer_core.specs.Offerings.{lists_of}
-use Rattle.offer_core.specs.Responses.{extent_rule, response_list_rule}
+use Rattle.extent_list.specs.{ExtentLists.count_in, Listing.too_many_extents, dcd_codes.specs.Rules.each_in, dcd_codes.specs.dcd_base.specs.declared.capacity.Extent.Extent}
+use Rattle.extent_list.specs.{dcd_codes.specs.dcd_base.specs.declared.ids.HostId.HostId, media_map.specs.region_config.specs.Configurations.Configuration}
+use Rattle.offer_core.{proofs.Rows.one_broken, specs.Offerings.lists_of, specs.Responses.extent_rule, specs.Responses.response_list_rule}
 use Rattle.offer_core.proofs.row.broken_list_rule.Goals as goal
 
 -- where nothing is listed only what the host has and is offered counts

@@ -1,8 +1,6 @@
 use Rattle.std.proofs.Common.{◌≡◌, ◌+◌, ◌≤◌, ◌++◌, List, [], IfOk, length, ap, arith, rules, subst, sym, ◌∙◌}
-use Rattle.std.proofs.lemmas.Bool.{eqb-true}
-use Rattle.std.proofs.lemmas.List.{nil_from_length}
-use Rattle.offer_core.proofs.Rows.{whole_tried}
-use Rattle.offer_core.specs.Offerings.{lists_of}
+use Rattle.std.proofs.lemmas.{Bool.eqb-true, List.nil_from_length}
+use Rattle.offer_core.{proofs.Rows.whole_tried, specs.Offerings.lists_of}
 use Rattle.extent_list.specs.dcd_codes.specs.dcd_base.specs.declared.capacity.Extent.{Extent}
 use Rattle.offer_core.proofs.row.broken_rule.Goals as goal
 

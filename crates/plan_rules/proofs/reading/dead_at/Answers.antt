@@ -1,7 +1,6 @@
 use Rattle.std.proofs.Common.{codes}
 use Rattle.serde_json.specs.View.{view}
-use Rattle.plan_rules.specs.DemandTexts.{IsArrayOf, IsWhole}
-use Rattle.plan_rules.proofs.Telling.{member_told}
+use Rattle.plan_rules.{specs.DemandTexts.IsArrayOf, specs.DemandTexts.IsWhole, proofs.Telling.member_told}
 use Rattle.plan_rules.proofs.reading.dead_at.Goals as goal
 
 pub returns-in-Some : goal.returns-in-Some

@@ -1,8 +1,5 @@
-use Rattle.std.proofs.Common.{add-one}
-use Rattle.std.proofs.lemmas.Result.{err_from_is_err_and}
-use Rattle.plan_rules.specs.DemandTexts.{IsWhole}
-use Rattle.plan_rules.proofs.Telling.{passed_on}
-use Rattle.plan_rules.proofs.Zipped.{zipped_at, zipped_more}
+use Rattle.std.proofs.{Common.add-one, lemmas.Result.err_from_is_err_and}
+use Rattle.plan_rules.{specs.DemandTexts.IsWhole, proofs.Telling.passed_on, proofs.Zipped.zipped_at, proofs.Zipped.zipped_more}
 use Rattle.plan_rules.proofs.reading.each_number.Goals as goal
 
 pub returns-in_err-number_in : goal.returns-in_err-number_in

@@ -1,5 +1,4 @@
-use Rattle.std.specs.Prelude.{map, take}
-use Rattle.std.specs.List.{AllZip}
+use Rattle.std.specs.{Prelude.map, Prelude.take, List.AllZip}
 use Rattle.serde_json.specs.View.{view}
 use Rattle.plan_rules.specs.DemandTexts.{IsWhole}
 use Rattle.plan_rules.proofs.reading.each_number.Given as goal

@@ -1,5 +1,4 @@
-use Rattle.plan_rules.specs.DemandTexts.{IsWhole}
-use Rattle.plan_rules.proofs.Telling.{array_told}
+use Rattle.plan_rules.{specs.DemandTexts.IsWhole, proofs.Telling.array_told}
 use Rattle.plan_rules.proofs.reading.numbers_in.Goals as goal
 
 pub returns-in-Some : goal.returns-in-Some

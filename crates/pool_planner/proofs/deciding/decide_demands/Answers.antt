@@ -1,9 +1,7 @@
-use Rattle.std.proofs.Common.{◌∙◌, List, subst}
-use Rattle.std.proofs.lemmas.Result.{IfOk-weaker}
+use Rattle.std.proofs.{Common.◌∙◌, Common.List, Common.subst, lemmas.Result.IfOk-weaker}
 use Rattle.region_config.specs.Configurations.{Configuration}
 use Rattle.device_plain.specs.device_rules.specs.Legal.{Legal}
-use Rattle.report.specs.script_codec.specs.Covering.{Runs}
-use Rattle.report.specs.script_codec.specs.declared.script_line.Line.{Line}
+use Rattle.report.specs.script_codec.specs.{Covering.Runs, declared.script_line.Line.Line}
 use Rattle.pool_planner.specs.PlanEnds.{IsDemandsEnd, IsPlannedEnd}
 use Rattle.pool_planner.proofs.deciding.decide_demands.Goals as goal
 

@@ -1,13 +1,7 @@
-use Rattle.std.proofs.Common.{◌≡◌, Ok, Err, sym, subst, ◌∙◌, rules}
-use Rattle.std.specs.Prelude.{IfOk}
+use Rattle.std.{proofs.Common.◌≡◌, proofs.Common.Ok, proofs.Common.Err, proofs.Common.sym, proofs.Common.subst, proofs.Common.◌∙◌, proofs.Common.rules, specs.Prelude.IfOk}
 use Rattle.journal_core.specs.Entries.{effects}
-use Rattle.plan_rules.specs.Holding.{stepped}
-use Rattle.plan_rules.specs.Meeting.{MeetsDemands}
-use Rattle.plan_rules.specs.PlanAlike.{PlanAlike}
-use Rattle.plan_rules.specs.Planning.{IsPlan}
-use Rattle.pool_planner.specs.PlanPrinting.{plan_text}
-use Rattle.pool_planner.proofs.PlanEndings.{fault_end, list_end}
-use Rattle.pool_planner.proofs.PlanRunning.{commands_alike}
+use Rattle.plan_rules.specs.{Holding.stepped, Meeting.MeetsDemands, PlanAlike.PlanAlike, Planning.IsPlan}
+use Rattle.pool_planner.{specs.PlanPrinting.plan_text, proofs.PlanEndings.fault_end, proofs.PlanEndings.list_end, proofs.PlanRunning.commands_alike}
 use Rattle.pool_planner.proofs.deciding.decide_plan.Goals as goal
 
 pub returns-in-Ok : goal.returns-in-Ok

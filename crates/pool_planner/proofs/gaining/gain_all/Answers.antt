@@ -1,7 +1,6 @@
 use Rattle.std.proofs.Common.{◌∙◌}
 use Rattle.journal_core.specs.Entries.{effects}
-use Rattle.plan_rules.specs.Listing.{gaining}
-use Rattle.plan_rules.specs.Planning.{no_demand}
+use Rattle.plan_rules.specs.{Listing.gaining, Planning.no_demand}
 use Rattle.pool_planner.proofs.GainedInTurn.{goes_more}
 use Rattle.pool_planner.proofs.gaining.gain_all.Goals as goal
 

@@ -1,15 +1,10 @@
 use Rattle.std.proofs.Common.{◌≡◌, ◌*◌, ◌%◌, ◌^◌, ◌==◌, ◌∷◌, [], Bool, List, false, ap, arith, subst, sym, ◌∙◌}
-use Rattle.std.specs.Prelude.{OnOk, if◌then◌else◌}
-use Rattle.std.proofs.lemmas.Bool.{ne_eqb}
-use Rattle.journal_core.specs.Entries.{effects}
-use Rattle.journal_core.specs.declared.entries.Entry.{Entry}
+use Rattle.std.{specs.Prelude.OnOk, specs.Prelude.if◌then◌else◌, proofs.lemmas.Bool.ne_eqb}
+use Rattle.journal_core.specs.{Entries.effects, declared.entries.Entry.Entry}
 use Rattle.region_config.specs.Configurations.{Configuration}
-use Rattle.plan_rules.specs.Holding.{Step, gain, stepped}
-use Rattle.plan_rules.specs.Listing.{add_step, added, gained, offer_taken}
-use Rattle.pool_planner.specs.Trials.{TriesMore}
+use Rattle.plan_rules.specs.{Holding.Step, Holding.gain, Holding.stepped, Listing.add_step, Listing.added, Listing.gained, Listing.offer_taken}
+use Rattle.pool_planner.{specs.Trials.TriesMore, proofs.SixtyFourBits.add_wraps, proofs.Taking.takes_then_ok}
 use Rattle.device_plain.specs.device_rules.specs.Hosts.{block_of}
-use Rattle.pool_planner.proofs.SixtyFourBits.{add_wraps}
-use Rattle.pool_planner.proofs.Taking.{takes_then_ok}
 use Rattle.pool_planner.proofs.gaining.gain_one.Goals as goal
 
 pub returns : goal.returns

@@ -1,5 +1,4 @@
-use Rattle.std.proofs.Common.{◌∷◌, [], List, ap, subst}
-use Rattle.std.specs.Prelude.{OnOk}
+use Rattle.std.{proofs.Common.◌∷◌, proofs.Common.[], proofs.Common.List, proofs.Common.ap, proofs.Common.subst, specs.Prelude.OnOk}
 use Rattle.plan_rules.specs.Holding.{Step}
 use Rattle.pool_planner.specs.Trials.{TriesMore}
 use Rattle.pool_planner.proofs.gaining.take_offer.Goals as goal

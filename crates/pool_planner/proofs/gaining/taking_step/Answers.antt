@@ -2,8 +2,7 @@ use Rattle.std.proofs.Common.{arith, subst}
 use Rattle.region_config.specs.Soundness.{IsSound}
 use Rattle.journal_core.specs.Entries.{effects}
 use Rattle.device_plain.specs.device_rules.specs.Hosts.{offers_of}
-use Rattle.pool_planner.proofs.GainedInTurn.{offer_short}
-use Rattle.pool_planner.proofs.HeldBounds.{offers_few}
+use Rattle.pool_planner.proofs.{GainedInTurn.offer_short, HeldBounds.offers_few}
 use Rattle.pool_planner.proofs.gaining.taking_step.Goals as goal
 
 pub accept_step-requires-2 : goal.accept_step-requires-2

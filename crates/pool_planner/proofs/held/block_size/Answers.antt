@@ -1,11 +1,7 @@
 use Rattle.std.proofs.Common.{ap, arith, length, ◌∙◌}
-use Rattle.region_config.specs.Configurations.{Configuration}
-use Rattle.region_config.specs.Granules.{region_spec}
-use Rattle.region_config.specs.declared.region_spec.RegionSpec.{RegionSpec}
-use Rattle.region_config.proofs.PresentBlocks.{region_spec-with_blocks}
+use Rattle.region_config.{specs.Configurations.Configuration, specs.Granules.region_spec, specs.declared.region_spec.RegionSpec.RegionSpec, proofs.PresentBlocks.region_spec-with_blocks}
 use Rattle.journal_core.specs.Entries.{effects}
-use Rattle.device_plain.specs.control_core.specs.manager_commands.proofs.Reached.{blocks_long}
-use Rattle.device_plain.specs.device_rules.specs.Hosts.{block_of}
+use Rattle.device_plain.specs.{control_core.specs.manager_commands.proofs.Reached.blocks_long, device_rules.specs.Hosts.block_of}
 use Rattle.pool_planner.proofs.held.block_size.Goals as goal
 
 pub region-requires : goal.region-requires

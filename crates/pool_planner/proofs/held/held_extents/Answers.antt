@@ -1,7 +1,5 @@
 use Rattle.std.proofs.Common.{◌≡◌, ◌==◌, ◌+◌, ◌^◌, ◌<◌, ap, arith, length, subst, sym, ◌∙◌}
-use Rattle.std.specs.Prelude.{All}
-use Rattle.std.specs.List.{filter}
-use Rattle.std.proofs.lemmas.List.Elements.{All-filter}
+use Rattle.std.{specs.Prelude.All, specs.List.filter, proofs.lemmas.List.Elements.All-filter}
 use Rattle.dcd_base.specs.declared.capacity.Extent.{Extent}
 use Rattle.region_config.specs.Soundness.{IsSound}
 use Rattle.journal_core.specs.Entries.{effects}

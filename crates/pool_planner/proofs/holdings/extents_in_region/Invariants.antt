@@ -1,5 +1,4 @@
-use Rattle.std.proofs.Common.{◌≡◌, ◌==◌, ◌≤◌, length, take}
-use Rattle.std.specs.List.{filter}
+use Rattle.std.{proofs.Common.◌≡◌, proofs.Common.◌==◌, proofs.Common.◌≤◌, proofs.Common.length, proofs.Common.take, specs.List.filter}
 use Rattle.media_map.specs.Places.{region_at}
 use Rattle.pool_planner.proofs.holdings.extents_in_region.Given as goal
 

@@ -5,11 +5,8 @@ use Rattle.event_log.specs.LogStates.{LogState}
 use Rattle.event_records.specs.declared.events.Event.{Event}
 use Rattle.journal_core.specs.Entries.{effects}
 use Rattle.device_plain.specs.device_rules.specs.Counts.{records_of}
-use Rattle.plan_rules.specs.Holding.{Step}
-use Rattle.plan_rules.specs.Listing.{clear_step, clearing, for_some}
-use Rattle.pool_planner.specs.Trials.{TriesMore}
-use Rattle.pool_planner.proofs.HeldBounds.{records_are}
-use Rattle.pool_planner.proofs.Taking.{for_none, for_one, takes_none}
+use Rattle.plan_rules.specs.{Holding.Step, Listing.clear_step, Listing.clearing, Listing.for_some}
+use Rattle.pool_planner.{specs.Trials.TriesMore, proofs.HeldBounds.records_are, proofs.Taking.for_none, proofs.Taking.for_one, proofs.Taking.takes_none}
 use Rattle.pool_planner.proofs.letting_go.clear_log.Goals as goal
 
 pub returns-then-is_empty : goal.returns-then-is_empty

@@ -1,11 +1,8 @@
-use Rattle.std.proofs.Common.{◌≡◌, ◌∷◌, [], List, ap, subst, sym, ◌∙◌}
-use Rattle.std.specs.Prelude.{OnOk}
+use Rattle.std.{proofs.Common.◌≡◌, proofs.Common.◌∷◌, proofs.Common.[], proofs.Common.List, proofs.Common.ap, proofs.Common.subst, proofs.Common.sym, proofs.Common.◌∙◌, specs.Prelude.OnOk}
 use Rattle.dcd_base.specs.declared.capacity.Extent.{Extent}
 use Rattle.journal_core.specs.Entries.{effects}
-use Rattle.plan_rules.specs.Holding.{Step}
-use Rattle.plan_rules.specs.Listing.{for_some, removal, removal_step}
-use Rattle.pool_planner.specs.Trials.{TriesMore}
-use Rattle.pool_planner.proofs.Taking.{for_one}
+use Rattle.plan_rules.specs.{Holding.Step, Listing.for_some, Listing.removal, Listing.removal_step}
+use Rattle.pool_planner.{specs.Trials.TriesMore, proofs.Taking.for_one}
 use Rattle.pool_planner.proofs.letting_go.empty_region.Goals as goal
 
 pub returns : goal.returns

@@ -1,5 +1,4 @@
-use Rattle.std.specs.Prelude.{flat_map}
-use Rattle.std.specs.List.{range_with_len}
+use Rattle.std.specs.{Prelude.flat_map, List.range_with_len}
 use Rattle.journal_core.specs.Entries.{effects}
 use Rattle.plan_rules.specs.Listing.{removal}
 use Rattle.pool_planner.specs.Trials.{TriesMore}

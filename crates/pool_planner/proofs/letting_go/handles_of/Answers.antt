@@ -1,6 +1,5 @@
 use Rattle.std.proofs.Common.{◌<◌, ◌∷◌, ◌++◌, [], ℕ, List, ap, arith, length, map, take, sym, ◌∙◌}
-use Rattle.std.proofs.lemmas.List.{length-append, map-append, take_more}
-use Rattle.std.proofs.lemmas.Option.{get_or_from_slice_get}
+use Rattle.std.proofs.lemmas.{List.length-append, List.map-append, List.take_more, Option.get_or_from_slice_get}
 use Rattle.event_records.specs.declared.events.Event.{Event}
 use Rattle.pool_planner.proofs.letting_go.handles_of.Goals as goal
 

@@ -1,5 +1,4 @@
-use Rattle.std.specs.Prelude.{flat_map}
-use Rattle.std.proofs.Common.{◌++◌}
+use Rattle.std.{specs.Prelude.flat_map, proofs.Common.◌++◌}
 use Rattle.region_config.specs.Granules.{regions_of}
 use Rattle.journal_core.specs.Entries.{effects}
 use Rattle.plan_rules.specs.Listing.{clearing, refusals, removal}

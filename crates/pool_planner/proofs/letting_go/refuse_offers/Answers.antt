@@ -1,9 +1,6 @@
-use Rattle.std.proofs.Common.{◌∷◌, ◌++◌, [], ap, replicate, subst, ◌∙◌}
-use Rattle.std.proofs.lemmas.List.{replicate_more}
-use Rattle.plan_rules.specs.Holding.{Step}
-use Rattle.plan_rules.specs.Listing.{refusal_step}
-use Rattle.pool_planner.specs.Trials.{TriesMore}
-use Rattle.pool_planner.proofs.Taking.{takes_then}
+use Rattle.std.proofs.{Common.◌∷◌, Common.◌++◌, Common.[], Common.ap, Common.replicate, Common.subst, Common.◌∙◌, lemmas.List.replicate_more}
+use Rattle.plan_rules.specs.{Holding.Step, Listing.refusal_step}
+use Rattle.pool_planner.{specs.Trials.TriesMore, proofs.Taking.takes_then}
 use Rattle.pool_planner.proofs.letting_go.refuse_offers.Goals as goal
 
 pub loop-preserved : goal.loop-preserved

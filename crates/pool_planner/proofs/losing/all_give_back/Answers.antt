@@ -1,6 +1,5 @@
 use Rattle.journal_core.specs.Entries.{effects}
-use Rattle.plan_rules.specs.Listing.{give_back_surplus}
-use Rattle.plan_rules.specs.Planning.{no_demand}
+use Rattle.plan_rules.specs.{Listing.give_back_surplus, Planning.no_demand}
 use Rattle.pool_planner.proofs.Taking.{takes_more}
 use Rattle.pool_planner.proofs.losing.all_give_back.Goals as goal
 

@@ -1,5 +1,4 @@
-use Rattle.std.proofs.Common.{take}
-use Rattle.std.specs.Prelude.{flat_map}
+use Rattle.std.{proofs.Common.take, specs.Prelude.flat_map}
 use Rattle.journal_core.specs.Entries.{effects}
 use Rattle.plan_rules.specs.Listing.{give_back_surplus}
 use Rattle.pool_planner.specs.Trials.{TriesMore}

@@ -1,19 +1,10 @@
-use Rattle.std.proofs.Common.{◌≡◌, List, Some, None, ap, subst, sym, ◌∙◌}
-use Rattle.std.proofs.lemmas.Result.{err_from_is_err_and}
-use Rattle.std.specs.Prelude.{option_map}
-use Rattle.std.specs.declared.result.Result.{Result}
-use Rattle.std.specs.declared.result.Result.TheVariants.{Err}
+use Rattle.std.proofs.{Common.◌≡◌, Common.List, Common.Some, Common.None, Common.ap, Common.subst, Common.sym, Common.◌∙◌, lemmas.Result.err_from_is_err_and}
+use Rattle.std.specs.{Prelude.option_map, declared.result.Result.Result, declared.result.Result.TheVariants.Err}
 use Rattle.region_config.specs.Configurations.{Configuration}
-use Rattle.journal_core.specs.Entries.{effects}
-use Rattle.journal_core.specs.declared.entries.Entry.{Entry}
-use Rattle.plan_rules.specs.declared.demands.Demand.{Demand}
-use Rattle.plan_rules.specs.declared.demands.Demands.{Demands}
-use Rattle.plan_rules.specs.Holding.{Step}
-use Rattle.plan_rules.specs.Listing.{gaining}
-use Rattle.plan_rules.specs.Planning.{IsPlan, is_open, lowest_below, named_fault}
-use Rattle.plan_rules.specs.declared.faults.PlanFault.{PlanFault}
-use Rattle.pool_planner.specs.Trials.{TriesMore, short_between}
-use Rattle.pool_planner.proofs.PlanEnds.{fault_short, plan_ends, plan_err}
+use Rattle.journal_core.specs.{Entries.effects, declared.entries.Entry.Entry}
+use Rattle.plan_rules.specs.{Holding.Step, Listing.gaining, Planning.IsPlan, Planning.is_open, Planning.lowest_below, Planning.named_fault, declared.demands.Demand.Demand}
+use Rattle.plan_rules.specs.declared.{demands.Demands.Demands, faults.PlanFault.PlanFault}
+use Rattle.pool_planner.{specs.Trials.TriesMore, specs.Trials.short_between, proofs.PlanEnds.fault_short, proofs.PlanEnds.plan_ends, proofs.PlanEnds.plan_err}
 use Rattle.pool_planner.proofs.planning.list_or_fault.Goals as goal
 
 -- want of memory may be answered whatever was asked

@@ -1,13 +1,9 @@
 use Rattle.std.proofs.Common.{[], List, subst}
 use Rattle.region_config.specs.Configurations.{Configuration}
-use Rattle.journal_core.specs.Entries.{effects}
-use Rattle.journal_core.specs.declared.entries.Entry.{Entry}
+use Rattle.journal_core.specs.{Entries.effects, declared.entries.Entry.Entry}
 use Rattle.device_plain.specs.device_rules.specs.Legal.{Legal}
-use Rattle.plan_rules.specs.Listing.{losing}
-use Rattle.plan_rules.specs.PlanAlike.{replayed}
-use Rattle.plan_rules.proofs.AlikeSteps.{alike_replayed}
-use Rattle.pool_planner.specs.Trials.{IsTried, TriesMore}
-use Rattle.pool_planner.proofs.PlanEnds.{is_prepared}
+use Rattle.plan_rules.{specs.Listing.losing, specs.PlanAlike.replayed, proofs.AlikeSteps.alike_replayed}
+use Rattle.pool_planner.{specs.Trials.IsTried, specs.Trials.TriesMore, proofs.PlanEnds.is_prepared}
 use Rattle.pool_planner.proofs.planning.prepared.Goals as goal
 
 pub returns : goal.returns

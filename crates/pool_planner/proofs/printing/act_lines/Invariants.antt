@@ -1,5 +1,4 @@
-use Rattle.std.proofs.Common.{◌≡◌, take}
-use Rattle.std.specs.Prelude.{flat_map}
+use Rattle.std.{proofs.Common.◌≡◌, proofs.Common.take, specs.Prelude.flat_map}
 use Rattle.pool_planner.specs.PlanPrinting.{plan_line}
 use Rattle.pool_planner.proofs.printing.act_lines.Given as goal
 

@@ -1,5 +1,4 @@
-use Rattle.std.proofs.Common.{◌≡◌, ◌∙◌, subst}
-use Rattle.std.specs.Prelude.{IfOk}
+use Rattle.std.{proofs.Common.◌≡◌, proofs.Common.◌∙◌, proofs.Common.subst, specs.Prelude.IfOk}
 use Rattle.pool_planner.proofs.PlanLines.{all_gathered}
 use Rattle.pool_planner.proofs.refusals.script_refusal.Goals as goal
 

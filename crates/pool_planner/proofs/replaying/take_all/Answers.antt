@@ -1,11 +1,8 @@
-use Rattle.std.proofs.Common.{[], ◌∷◌, ◌++◌, sym, subst, ap, ◌∙◌}
+use Rattle.std.proofs.{Common.[], Common.◌∷◌, Common.◌++◌, Common.sym, Common.subst, Common.ap, Common.◌∙◌, lemmas.List.Sums.fold_push}
 use Rattle.std.specs.Prelude.{IsTrue}
-use Rattle.std.proofs.lemmas.List.Sums.{fold_push}
 use Rattle.region_config.specs.Configurations.{Configuration}
-use Rattle.journal_core.specs.Entries.{fits}
-use Rattle.device_plain.specs.kept_journal.specs.Lending.{lent, lent_entry}
-use Rattle.journal_core.specs.declared.entries.Entry.{Entry}
-use Rattle.device_plain.specs.kept_journal.proofs.Lists.{next_has, one_more_done}
+use Rattle.journal_core.specs.{Entries.fits, declared.entries.Entry.Entry}
+use Rattle.device_plain.specs.kept_journal.{specs.Lending.lent, specs.Lending.lent_entry, proofs.Lists.next_has, proofs.Lists.one_more_done}
 use Rattle.plan_rules.specs.PlanAlike.{with_act_of}
 use Rattle.pool_planner.proofs.TakenAgain.{all_fit}
 use Rattle.pool_planner.proofs.replaying.take_all.Goals as goal

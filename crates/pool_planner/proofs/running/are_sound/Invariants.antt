@@ -1,5 +1,4 @@
-use Rattle.std.proofs.Common.{take}
-use Rattle.std.specs.List.{All}
+use Rattle.std.{proofs.Common.take, specs.List.All}
 use Rattle.pool_planner.specs.PlanPrinting.{IsSoundStep}
 use Rattle.pool_planner.proofs.running.are_sound.Given as goal
 

@@ -1,10 +1,8 @@
 use Rattle.std.proofs.Common.{◌≡◌, ◌+◌, [], ◌∷◌, ◌++◌, length, take, sym, ap, subst, ◌∙◌, arith}
 use Rattle.std.proofs.lemmas.List.{length-take-le, take_more}
 use Rattle.region_config.specs.Configurations.{Configuration}
-use Rattle.report.specs.script_codec.specs.Covering.{Runs}
-use Rattle.report.specs.script_codec.specs.declared.script_line.Line.{Line}
-use Rattle.pool_planner.specs.PlanRuns.{AddsScriptLine}
-use Rattle.pool_planner.proofs.PlanRunning.{one_more_line}
+use Rattle.report.specs.script_codec.specs.{Covering.Runs, declared.script_line.Line.Line}
+use Rattle.pool_planner.{specs.PlanRuns.AddsScriptLine, proofs.PlanRunning.one_more_line}
 use Rattle.pool_planner.proofs.running.run_lines.Goals as goal
 
 pub loop-line-preserved : goal.loop-line-preserved

@@ -1,8 +1,7 @@
 use Rattle.std.proofs.Common.{◌≡◌, ◌+◌, [], ◌∷◌, ◌++◌, take, sym, ap, subst, ◌∙◌}
 use Rattle.std.proofs.lemmas.List.{take_more}
 use Rattle.plan_rules.specs.Holding.{Step}
-use Rattle.pool_planner.specs.PlanRuns.{IsBehindList}
-use Rattle.pool_planner.proofs.PlanRunning.{one_more_step}
+use Rattle.pool_planner.{specs.PlanRuns.IsBehindList, proofs.PlanRunning.one_more_step}
 use Rattle.pool_planner.proofs.running.take_steps.Goals as goal
 
 pub loop-step-preserved : goal.loop-step-preserved

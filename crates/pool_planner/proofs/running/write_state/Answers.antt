@@ -1,5 +1,4 @@
-use Rattle.std.proofs.Common.{◌≡◌, ◌++◌, ◌∙◌, subst}
-use Rattle.std.specs.Prelude.{OnOk}
+use Rattle.std.{proofs.Common.◌≡◌, proofs.Common.◌++◌, proofs.Common.◌∙◌, proofs.Common.subst, specs.Prelude.OnOk}
 use Rattle.report.specs.Texts.{summary}
 use Rattle.pool_planner.proofs.PlanLines.{all_gathered, state_behind, state_within}
 use Rattle.pool_planner.proofs.running.write_state.Goals as goal

@@ -1,8 +1,6 @@
-use Rattle.std.proofs.Common.{◌≡◌, ◌==◌, ◌*◌, ◌≤◌, sum_by, take}
-use Rattle.std.specs.Prelude.{if◌then◌else◌}
-use Rattle.plan_rules.specs.declared.demands.Demand.{Demand}
+use Rattle.std.{proofs.Common.◌≡◌, proofs.Common.◌==◌, proofs.Common.◌*◌, proofs.Common.◌≤◌, proofs.Common.sum_by, proofs.Common.take, specs.Prelude.if◌then◌else◌}
+use Rattle.plan_rules.specs.{declared.demands.Demand.Demand, Holding.gain}
 use Rattle.journal_core.specs.Entries.{effects}
-use Rattle.plan_rules.specs.Holding.{gain}
 use Rattle.pool_planner.proofs.shortness.need_in.Given as goal
 
 abbrev pub invariant-loop-i : goal.invariant-loop-i

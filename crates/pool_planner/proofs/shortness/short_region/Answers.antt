@@ -1,15 +1,10 @@
 use Rattle.std.proofs.Common.{◌≡◌, ◌<◌, ◌≤◌, ◌==◌, false, nat_lt, Some, ap, arith, length, subst, sum_by, sym, ◌∙◌}
-use Rattle.std.specs.Prelude.{if◌then◌else◌, option_map}
-use Rattle.std.proofs.lemmas.Bool.{le-ltb, lt-ltb}
+use Rattle.std.{specs.Prelude.if◌then◌else◌, specs.Prelude.option_map, proofs.lemmas.Bool.le-ltb, proofs.lemmas.Bool.lt-ltb}
 use borrow.Author.Count.{below_more}
 use Rattle.journal_core.specs.Entries.{effects}
 use Rattle.media_map.proofs.PlaceLemmas.{find_none}
-use Rattle.region_config.specs.Configurations.{Configuration}
-use Rattle.region_config.proofs.GranuleLemmas.{find_range}
-use Rattle.plan_rules.specs.declared.demands.Demand.{Demand}
-use Rattle.plan_rules.specs.Holding.{gain}
-use Rattle.plan_rules.specs.Planning.{free_in, need_in}
-use Rattle.plan_rules.specs.declared.faults.PlanFault.{PlanFault}
+use Rattle.region_config.{specs.Configurations.Configuration, proofs.GranuleLemmas.find_range}
+use Rattle.plan_rules.specs.{declared.demands.Demand.Demand, Holding.gain, Planning.free_in, Planning.need_in, declared.faults.PlanFault.PlanFault}
 use Rattle.pool_planner.proofs.shortness.short_region.Goals as goal
 
 pub returns-then-have-need : goal.returns-then-have-need

@@ -1,6 +1,5 @@
 use Rattle.std.proofs.Common.{ap, length, position, sym, ◌∙◌}
-use Rattle.extent_list.proofs.Holding.{cut_nowhere}
-use Rattle.extent_list.specs.ExtentLists.{lies_in}
+use Rattle.extent_list.{proofs.Holding.cut_nowhere, specs.ExtentLists.lies_in}
 use Rattle.release_core.proofs.counting.left_by.Goals as goal
 
 pub returns-in-None-clause-left : goal.returns-in-None-clause-left

@@ -1,11 +1,6 @@
 use Rattle.std.proofs.Common.{List, ◌≡◌, IfOk, None, false, ap, refl, rules, subst, sym, ◌∙◌}
-use Rattle.extent_list.specs.dcd_codes.specs.dcd_base.specs.declared.capacity.Extent.{Extent}
-use Rattle.extent_list.specs.dcd_codes.specs.Rules.{each_in}
-use Rattle.extent_list.specs.Listing.{incomplete, too_many_listed}
-use Rattle.release_core.specs.Leaving.{leaving_rule}
-use Rattle.extent_list.specs.declared.listed.Within.{Within}
-use Rattle.release_core.proofs.FreeToLeave.{all_can_leave}
-use Rattle.release_core.proofs.Rows.{few_listed, release_broken, release_counted}
+use Rattle.extent_list.specs.{dcd_codes.specs.dcd_base.specs.declared.capacity.Extent.Extent, dcd_codes.specs.Rules.each_in, Listing.incomplete, Listing.too_many_listed, declared.listed.Within.Within}
+use Rattle.release_core.{specs.Leaving.leaving_rule, proofs.FreeToLeave.all_can_leave, proofs.Rows.few_listed, proofs.Rows.release_broken, proofs.Rows.release_counted}
 use Rattle.release_core.proofs.releases.broken_list_rule.Goals as goal
 
 pub returns-in-Some : goal.returns-in-Some

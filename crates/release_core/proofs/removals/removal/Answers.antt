@@ -1,12 +1,6 @@
-use Rattle.std.proofs.Common.{◌≡◌, None, false, ap, length, rules, sym, ◌∙◌}
-use Rattle.std.specs.Prelude.{nat_le}
-use Rattle.extent_list.specs.dcd_codes.specs.dcd_base.specs.Words.{is_empty}
-use Rattle.extent_list.specs.dcd_codes.specs.Rules.{each_in}
-use Rattle.extent_list.specs.Listing.{too_many_listed}
-use Rattle.extent_list.specs.declared.listed.Within.{Within}
-use Rattle.release_core.specs.Leaving.{leaving_rule}
-use Rattle.release_core.proofs.FreeToLeave.{all_can_leave}
-use Rattle.release_core.proofs.Rows.{removal_broken}
+use Rattle.std.{proofs.Common.◌≡◌, proofs.Common.None, proofs.Common.false, proofs.Common.ap, proofs.Common.length, proofs.Common.rules, proofs.Common.sym, proofs.Common.◌∙◌, specs.Prelude.nat_le}
+use Rattle.extent_list.specs.{dcd_codes.specs.dcd_base.specs.Words.is_empty, dcd_codes.specs.Rules.each_in, Listing.too_many_listed, declared.listed.Within.Within}
+use Rattle.release_core.{specs.Leaving.leaving_rule, proofs.FreeToLeave.all_can_leave, proofs.Rows.removal_broken}
 use Rattle.release_core.proofs.removals.removal.Goals as goal
 
 pub returns-in-Some-first_unfit : goal.returns-in-Some-first_unfit

@@ -1,12 +1,8 @@
-use Rattle.std.proofs.Common.{◌++◌, ◌+◌, [], ◌∷◌, sym, ap, ◌∙◌, arith}
+use Rattle.std.proofs.{Common.◌++◌, Common.◌+◌, Common.[], Common.◌∷◌, Common.sym, Common.ap, Common.◌∙◌, Common.arith, lemmas.List.length_push}
 use Rattle.std.specs.List.{enumerate_from}
-use Rattle.std.proofs.lemmas.List.{length_push}
-use Rattle.control_core.specs.Deciding.{IsShort}
+use Rattle.control_core.specs.{Deciding.IsShort, kept_journal.specs.Lending.lent, kept_journal.specs.Lending.lent_entry, kept_journal.proofs.Lists.next_has, kept_journal.proofs.Lists.one_more_done}
 use Rattle.journal_core.specs.declared.entries.Entry.{Entry}
-use Rattle.control_core.specs.kept_journal.specs.Lending.{lent, lent_entry}
-use Rattle.control_core.specs.kept_journal.proofs.Lists.{next_has, one_more_done}
-use Rattle.report.specs.Texts.{entry_line}
-use Rattle.report.proofs.Parts.{entries_push, prints_each}
+use Rattle.report.{specs.Texts.entry_line, proofs.Parts.entries_push, proofs.Parts.prints_each}
 use Rattle.report.proofs.entry_lines.write_entries.Goals as goal
 
 pub loop-entry-preserved : goal.loop-entry-preserved

@@ -1,8 +1,6 @@
-use Rattle.std.proofs.Common.{◌≡◌, ◌++◌, List, flat_map, length}
-use Rattle.std.specs.List.{enumerate_from}
+use Rattle.std.{proofs.Common.◌≡◌, proofs.Common.◌++◌, proofs.Common.List, proofs.Common.flat_map, proofs.Common.length, specs.List.enumerate_from}
 use Rattle.journal_core.specs.declared.entries.Entry.{Entry}
-use Rattle.report.specs.Texts.{entry_line}
-use Rattle.report.specs.Printing.{Prints}
+use Rattle.report.specs.{Texts.entry_line, Printing.Prints}
 use Rattle.report.proofs.entry_lines.write_entries.Given as goal
 
 -- The lines of the entries so far are put; they stand before those that are left.

@@ -1,5 +1,4 @@
-use Rattle.report.specs.Refusals.{refused_at}
-use Rattle.report.proofs.Parts.{prints_then}
+use Rattle.report.{specs.Refusals.refused_at, proofs.Parts.prints_then}
 use Rattle.report.proofs.refusals.write_refused_line.Goals as goal
 
 pub returns : goal.returns

@@ -1,5 +1,4 @@
-use Rattle.report.specs.Texts.{granules_line}
-use Rattle.report.proofs.Parts.{prints_then}
+use Rattle.report.{specs.Texts.granules_line, proofs.Parts.prints_then}
 use Rattle.report.proofs.state_lines.write_granules_line.Goals as goal
 
 pub returns : goal.returns

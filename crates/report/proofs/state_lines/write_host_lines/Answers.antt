@@ -1,7 +1,6 @@
 use Rattle.std.specs.List.{range_with_len}
 use Rattle.journal_core.specs.Entries.{effects}
-use Rattle.report.specs.Texts.{host_line}
-use Rattle.report.proofs.Parts.{hosts_push, prints_each}
+use Rattle.report.{specs.Texts.host_line, proofs.Parts.hosts_push, proofs.Parts.prints_each}
 use Rattle.report.proofs.state_lines.write_host_lines.Goals as goal
 
 pub loop-host-preserved : goal.loop-host-preserved

@@ -1,8 +1,6 @@
-use Rattle.std.proofs.Common.{flat_map}
-use Rattle.std.specs.List.{range_with_len}
+use Rattle.std.{proofs.Common.flat_map, specs.List.range_with_len}
 use Rattle.journal_core.specs.Entries.{effects}
-use Rattle.report.specs.Texts.{host_line}
-use Rattle.report.specs.Printing.{Prints}
+use Rattle.report.specs.{Texts.host_line, Printing.Prints}
 use Rattle.report.proofs.state_lines.write_host_lines.Given as goal
 
 -- The lines of the hosts so far are put.

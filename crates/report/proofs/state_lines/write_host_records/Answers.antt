@@ -1,8 +1,7 @@
 use Rattle.std.specs.List.{range_with_len}
 use Rattle.dcd_base.specs.declared.steps.LogId.{LogId}
 use Rattle.journal_core.specs.Entries.{effects}
-use Rattle.report.specs.Texts.{record_lines}
-use Rattle.report.proofs.Parts.{hosts_push, prints_each}
+use Rattle.report.{specs.Texts.record_lines, proofs.Parts.hosts_push, proofs.Parts.prints_each}
 use Rattle.report.proofs.state_lines.write_host_records.Goals as goal
 
 pub loop-host-preserved : goal.loop-host-preserved

@@ -1,9 +1,7 @@
-use Rattle.std.proofs.Common.{flat_map}
-use Rattle.std.specs.List.{range_with_len}
+use Rattle.std.{proofs.Common.flat_map, specs.List.range_with_len}
 use Rattle.dcd_base.specs.declared.steps.LogId.{LogId}
 use Rattle.journal_core.specs.Entries.{effects}
-use Rattle.report.specs.Texts.{record_lines}
-use Rattle.report.specs.Printing.{Prints}
+use Rattle.report.specs.{Texts.record_lines, Printing.Prints}
 use Rattle.report.proofs.state_lines.write_host_records.Given as goal
 
 -- The records of the hosts so far are put.

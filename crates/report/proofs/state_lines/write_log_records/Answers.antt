@@ -1,8 +1,7 @@
 use Rattle.std.proofs.Common.{take}
 use Rattle.journal_core.specs.Entries.{effects}
 use Rattle.control_core.specs.device_rules.specs.Counts.{records_of}
-use Rattle.report.specs.Texts.{record_line}
-use Rattle.report.proofs.Parts.{prints_each, take_got}
+use Rattle.report.{specs.Texts.record_line, proofs.Parts.prints_each, proofs.Parts.take_got}
 use Rattle.report.proofs.state_lines.write_log_records.Goals as goal
 
 pub loop-index-preserved : goal.loop-index-preserved

@@ -1,8 +1,7 @@
 use Rattle.std.proofs.Common.{take, flat_map}
 use Rattle.journal_core.specs.Entries.{effects}
 use Rattle.control_core.specs.device_rules.specs.Counts.{records_of}
-use Rattle.report.specs.Texts.{record_line}
-use Rattle.report.specs.Printing.{Prints}
+use Rattle.report.specs.{Texts.record_line, Printing.Prints}
 use Rattle.report.proofs.state_lines.write_log_records.Given as goal
 
 -- The lines of the records so far are put.

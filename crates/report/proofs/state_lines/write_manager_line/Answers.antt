@@ -1,5 +1,4 @@
-use Rattle.report.specs.Texts.{manager_line}
-use Rattle.report.proofs.Parts.{prints_then}
+use Rattle.report.{specs.Texts.manager_line, proofs.Parts.prints_then}
 use Rattle.report.proofs.state_lines.write_manager_line.Goals as goal
 
 pub returns : goal.returns

@@ -1,10 +1,7 @@
 use Rattle.std.proofs.Common.{◌≡◌, ◌⊎◌, ◌<◌, ℕ, length}
 use mathlib.Core.Option.{some}
 use lib.ListN.{get_elem?}
-use Rattle.ruled_cells.specs.declared.seat.Seat.{Seat}
-use Rattle.ruled_cells.specs.Calls.{IsOf}
-use Rattle.ruled_cells.specs.Seats.{NoTurns, seat_number, seat_view}
-use Rattle.ruled_cells.specs.Making.{IsGathered}
+use Rattle.ruled_cells.specs.{declared.seat.Seat.Seat, Calls.IsOf, Seats.NoTurns, Seats.seat_number, Seats.seat_view, Making.IsGathered}
 use Rattle.ruled_cells.proofs.closing.gather.Given as goal
 
 abbrev pub invariant-loop-other : goal.invariant-loop-other

@@ -1,11 +1,10 @@
-use Rattle.ruled_cells.specs.declared.cell_value.CellValue.TheVariants.{Rest}
+use Rattle.ruled_cells.proofs.ClosingSteps.{no_empty, no_first_there, unpacked, taken_next, left_next, each_next}
+use Rattle.ruled_cells.specs.{Telling.values, declared.cell_value.CellValue.TheVariants.Rest}
 use Rattle.std.proofs.Common.{◌≡◌, get_or, false, ◌+◌, length, sym, ap, ◌∙◌, arith, subst, ◌<◌, Some}
 use Rattle.std.proofs.lemmas.List.{length_push}
 use mathlib.Core.Option.{some}
 use lib.ListN.{get_elem?}
 use Rattle.core.specs.Mem.Slots.{slots_items, slots_counts}
-use Rattle.ruled_cells.specs.Telling.{values}
-use Rattle.ruled_cells.proofs.ClosingSteps.{no_empty, no_first_there, unpacked, taken_next, left_next, each_next}
 use Rattle.ruled_cells.proofs.closing.unpack.Goals as goal
 
 pub unreachable-requires-in_default-slot : goal.unreachable-requires-in_default-slot

@@ -2,12 +2,8 @@ use Rattle.std.proofs.Common.{◌≡◌, ℕ, suc, ◌+◌, length, refl, sym, a
 use Rattle.std.proofs.lemmas.List.{length_push}
 use mathlib.Core.Option.{some}
 use lib.ListN.{get_elem?}
-use Rattle.ruled_cells.specs.Reads.{about_of}
-use Rattle.ruled_cells.specs.declared.seat.Seat.{Seat}
-use Rattle.ruled_cells.specs.declared.about.About.{About}
-use Rattle.ruled_cells.specs.Calls.{IsNew}
-use Rattle.ruled_cells.proofs.WholeSteps.{admits}
-use Rattle.ruled_cells.proofs.MakingSteps.{maker_enrolled, new_seat, each_push}
+use Rattle.ruled_cells.{proofs.MakingSteps.maker_enrolled, proofs.MakingSteps.new_seat, proofs.MakingSteps.each_push, proofs.WholeSteps.admits, specs.Calls.IsNew, specs.Reads.about_of}
+use Rattle.ruled_cells.specs.declared.{about.About.About, seat.Seat.Seat}
 use Rattle.ruled_cells.proofs.making.enroll_all.Goals as goal
 
 pub enroll-other-requires-clause-rule : goal.enroll-other-requires-clause-rule

@@ -1,10 +1,7 @@
 use Rattle.std.proofs.Common.{◌≡◌, ◌≤◌, ◌-◌, ◌+◌, ◌<◌, ℕ, suc, length, vec_capacity}
 use mathlib.Core.Option.{some}
 use lib.ListN.{get_elem?}
-use Rattle.ruled_cells.specs.Reads.{about_of}
-use Rattle.ruled_cells.specs.declared.seat.Seat.{Seat}
-use Rattle.ruled_cells.specs.Calls.{IsNew, seats_of}
-use Rattle.ruled_cells.specs.Making.{IsMaker}
+use Rattle.ruled_cells.specs.{Reads.about_of, declared.seat.Seat.Seat, Calls.IsNew, Calls.seats_of, Making.IsMaker}
 use Rattle.ruled_cells.proofs.making.enroll_all.Given as goal
 
 abbrev pub invariant-loop-made : goal.invariant-loop-made

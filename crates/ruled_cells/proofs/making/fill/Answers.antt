@@ -1,11 +1,6 @@
-use Rattle.std.proofs.Common.{◌≡◌, ◌+◌, length, ap, subst, ◌∙◌, arith}
-use Rattle.std.proofs.lemmas.List.{length_push}
-use Rattle.ruled_cells.specs.declared.cell_value.CellValue.TheVariants.{First, Rest}
-use Rattle.ruled_cells.specs.Turning.{IsGiven}
-use Rattle.ruled_cells.specs.Making.{fills}
-use Rattle.ruled_cells.proofs.CallSteps.{laws_of}
-use Rattle.ruled_cells.proofs.Opening.{fills_first, fills_cell}
-use Rattle.ruled_cells.proofs.MakingSteps.{maker_gave, filling_first, filling_next, filling_turn}
+use Rattle.std.proofs.{Common.◌≡◌, Common.◌+◌, Common.length, Common.ap, Common.subst, Common.◌∙◌, Common.arith, lemmas.List.length_push}
+use Rattle.ruled_cells.proofs.{CallSteps.laws_of, MakingSteps.maker_gave, MakingSteps.filling_first, MakingSteps.filling_next, MakingSteps.filling_turn, Opening.fills_first, Opening.fills_cell}
+use Rattle.ruled_cells.specs.{Making.fills, Turning.IsGiven, declared.cell_value.CellValue.TheVariants.First, declared.cell_value.CellValue.TheVariants.Rest}
 use Rattle.ruled_cells.proofs.making.fill.Goals as goal
 
 pub give-requires-clause-rule : goal.give-requires-clause-rule

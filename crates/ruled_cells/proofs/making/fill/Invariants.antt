@@ -1,7 +1,5 @@
 use Rattle.std.proofs.Common.{◌≡◌, ◌≤◌, length}
-use Rattle.ruled_cells.specs.Reads.{about_of}
-use Rattle.ruled_cells.specs.Turning.{NoTurn}
-use Rattle.ruled_cells.specs.Making.{IsMaker, IsFilling}
+use Rattle.ruled_cells.specs.{Reads.about_of, Turning.NoTurn, Making.IsMaker, Making.IsFilling}
 use Rattle.ruled_cells.proofs.making.fill.Given as goal
 
 abbrev pub invariant-loop-value : goal.invariant-loop-value

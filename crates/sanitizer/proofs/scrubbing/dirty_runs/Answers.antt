@@ -1,11 +1,7 @@
 use Rattle.std.proofs.Common.{◌≡◌, ◌∙◌, ℕ, ap, sym, subst, List, true}
-use Rattle.region_config.specs.dcd_base.specs.Words.{has_in_runs}
-use Rattle.region_config.specs.dcd_base.specs.declared.media.Run.{Run}
+use Rattle.region_config.specs.{dcd_base.specs.Words.has_in_runs, dcd_base.specs.declared.media.Run.Run, Granules.same_region}
 use Rattle.granule_map.specs.StateLists.{is_dirty_at}
-use Rattle.sanitizer.specs.Turns.{granules_of_runs, lowest_dirty}
-use Rattle.region_config.specs.Granules.{same_region}
-use Rattle.sanitizer.proofs.Counting.{joined_count}
-use Rattle.sanitizer.proofs.Scrubbed.{scrubbed_dirty}
+use Rattle.sanitizer.{specs.Turns.granules_of_runs, specs.Turns.lowest_dirty, proofs.Counting.joined_count, proofs.Scrubbed.scrubbed_dirty}
 use Rattle.sanitizer.proofs.scrubbing.dirty_runs.Goals as goal
 
 pub returns-clause-count : goal.returns-clause-count

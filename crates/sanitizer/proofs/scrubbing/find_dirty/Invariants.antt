@@ -1,7 +1,5 @@
-use Rattle.std.proofs.Common.{◌≡◌, ◌+◌, ◌-◌, ◌≤◌, ◌++◌, length, map}
-use Rattle.std.specs.Prelude.{All}
-use Rattle.granule_map.specs.Choices.{joined, lowest_from}
-use Rattle.granule_map.specs.StateLists.{is_dirty_at}
+use Rattle.std.{proofs.Common.◌≡◌, proofs.Common.◌+◌, proofs.Common.◌-◌, proofs.Common.◌≤◌, proofs.Common.◌++◌, proofs.Common.length, proofs.Common.map, specs.Prelude.All}
+use Rattle.granule_map.specs.{Choices.joined, Choices.lowest_from, StateLists.is_dirty_at}
 use Rattle.region_config.specs.Granules.{granule_total, same_region}
 use Rattle.sanitizer.specs.Turns.{IsInRegion, run_of_pair, scrub_runs}
 use Rattle.sanitizer.proofs.scrubbing.find_dirty.Given as goal

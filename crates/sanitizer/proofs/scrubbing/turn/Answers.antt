@@ -1,11 +1,6 @@
-use Rattle.std.proofs.Common.{◌≡◌, ℕ, sym, subst, length, List, arith, get_or}
-use Rattle.std.specs.Prelude.{All}
-use Rattle.region_config.specs.dcd_base.specs.declared.media.Run.{Run}
-use Rattle.region_config.specs.Configurations.{Configuration}
-use Rattle.region_config.specs.Granules.{granule_total}
-use Rattle.sanitizer.specs.Turns.{IsInRegion}
-use Rattle.sanitizer.proofs.Freeing.{IsWithin, freed_through}
-use Rattle.sanitizer.proofs.Regions.{run_below}
+use Rattle.std.{proofs.Common.◌≡◌, proofs.Common.ℕ, proofs.Common.sym, proofs.Common.subst, proofs.Common.length, proofs.Common.List, proofs.Common.arith, proofs.Common.get_or, specs.Prelude.All}
+use Rattle.region_config.specs.{dcd_base.specs.declared.media.Run.Run, Configurations.Configuration, Granules.granule_total}
+use Rattle.sanitizer.{specs.Turns.IsInRegion, proofs.Freeing.IsWithin, proofs.Freeing.freed_through, proofs.Regions.run_below}
 use Rattle.sanitizer.proofs.scrubbing.turn.Goals as goal
 
 all_within : (c : Configuration) (n : ℕ) (runs seen : List Run) → n ≡ granule_total c → seen ≡ runs → All (IsInRegion c) runs → All (IsWithin n) seen

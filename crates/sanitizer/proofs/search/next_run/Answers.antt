@@ -1,13 +1,10 @@
 use Rattle.std.proofs.Common.{◌≡◌, ◌+◌, ◌-◌, ◌<◌, ◌≤◌, ◌∙◌, ℕ, Bool, min, ap, sym, suc, arith, length, List, Option, Some, None}
 use Rattle.std.specs.List.{find, prefix_len, range_with_len}
-use Rattle.granule_map.specs.StateLists.{dirty_from, is_dirty_at}
-use Rattle.granule_map.specs.declared.states.GranuleState.{GranuleState}
-use Rattle.region_config.specs.Configurations.{Configuration}
-use Rattle.region_config.specs.Granules.{first_granule, granule_total, region_of, same_region}
-use Rattle.region_config.proofs.GranuleLemmas.{of_region}
 use Rattle.granule_map.proofs.Joining.{IsFound, few, found_next, found_run, lowest_found, none_left}
-use Rattle.sanitizer.proofs.Regions.{apart, together}
-use Rattle.sanitizer.specs.Turns.{IsNextDirtyRun}
+use Rattle.granule_map.specs.{StateLists.dirty_from, StateLists.is_dirty_at, declared.states.GranuleState.GranuleState}
+use Rattle.region_config.{proofs.GranuleLemmas.of_region, specs.Configurations.Configuration}
+use Rattle.region_config.specs.Granules.{first_granule, granule_total, region_of, same_region}
+use Rattle.sanitizer.{proofs.Regions.apart, proofs.Regions.together, specs.Turns.IsNextDirtyRun}
 use Rattle.sanitizer.proofs.search.next_run.Goals as goal
 
 -- the search of the states is one below the number of granules

@@ -1,8 +1,5 @@
-use Rattle.std.proofs.Common.{◌-◌, ◌+◌, arith, rules}
-use Rattle.std.proofs.lemmas.Result.{err_from_is_err_and}
-use Rattle.std.specs.Int.{w64}
-use Rattle.script_codec.specs.Fields.{number_from}
-use Rattle.script_codec.proofs.Lists.{many_goes_on, many_fails, many_done}
+use Rattle.std.{proofs.Common.◌-◌, proofs.Common.◌+◌, proofs.Common.arith, proofs.Common.rules, proofs.lemmas.Result.err_from_is_err_and, specs.Int.w64}
+use Rattle.script_codec.{specs.Fields.number_from, proofs.Lists.many_goes_on, proofs.Lists.many_fails, proofs.Lists.many_done}
 use Rattle.script_codec.proofs.heads.bases_at.Goals as goal
 
 pub returns-in_err-base-clause-value : goal.returns-in_err-base-clause-value

@@ -1,7 +1,5 @@
-use Rattle.std.proofs.Common.{◌≡◌, ◌-◌, ◌≤◌, length}
-use Rattle.std.specs.Int.{w64}
-use Rattle.script_codec.specs.Fields.{many_from, number_from}
-use Rattle.script_codec.proofs.Lists.{with_fields}
+use Rattle.std.{proofs.Common.◌≡◌, proofs.Common.◌-◌, proofs.Common.◌≤◌, proofs.Common.length, specs.Int.w64}
+use Rattle.script_codec.{specs.Fields.many_from, specs.Fields.number_from, proofs.Lists.with_fields}
 use Rattle.script_codec.proofs.heads.bases_at.Given as goal
 
 abbrev pub invariant-loop : goal.invariant-loop

@@ -1,7 +1,5 @@
-use Rattle.std.proofs.Common.{◌-◌, ◌+◌, arith, rules}
-use Rattle.std.proofs.lemmas.Result.{err_from_is_err_and}
-use Rattle.script_codec.specs.Heads.{region_from}
-use Rattle.script_codec.proofs.Lists.{many_goes_on, many_fails, many_done}
+use Rattle.std.proofs.{Common.◌-◌, Common.◌+◌, Common.arith, Common.rules, lemmas.Result.err_from_is_err_and}
+use Rattle.script_codec.{specs.Heads.region_from, proofs.Lists.many_goes_on, proofs.Lists.many_fails, proofs.Lists.many_done}
 use Rattle.script_codec.proofs.heads.regions_at.Goals as goal
 
 pub returns-in_err-region-clause-value : goal.returns-in_err-region-clause-value

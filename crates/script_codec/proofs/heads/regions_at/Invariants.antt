@@ -1,7 +1,5 @@
 use Rattle.std.proofs.Common.{◌≡◌, ◌-◌, ◌≤◌, length}
-use Rattle.script_codec.specs.Fields.{many_from}
-use Rattle.script_codec.specs.Heads.{region_from}
-use Rattle.script_codec.proofs.Lists.{with_fields}
+use Rattle.script_codec.{specs.Fields.many_from, specs.Heads.region_from, proofs.Lists.with_fields}
 use Rattle.script_codec.proofs.heads.regions_at.Given as goal
 
 abbrev pub invariant-loop : goal.invariant-loop

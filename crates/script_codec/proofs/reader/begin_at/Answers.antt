@@ -1,5 +1,4 @@
-use Rattle.std.proofs.Common.{arith, refl}
-use Rattle.std.proofs.lemmas.Result.{err_from_is_err_and}
+use Rattle.std.proofs.{Common.arith, Common.refl, lemmas.Result.err_from_is_err_and}
 use Rattle.script_codec.proofs.Beginnings.{too_long, head_fails, begins}
 use Rattle.script_codec.proofs.reader.begin_at.Goals as goal
 

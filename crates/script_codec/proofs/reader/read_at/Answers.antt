@@ -1,7 +1,5 @@
-use Rattle.std.proofs.Common.{◌-◌, arith, rules, ◌∙◌}
-use Rattle.std.proofs.lemmas.Result.{err_from_is_err_and}
-use Rattle.script_codec.proofs.Lists.{no_kind, at_end, bad_line, too_many}
-use Rattle.script_codec.proofs.NextLines.{takes_at}
+use Rattle.std.proofs.{Common.◌-◌, Common.arith, Common.rules, Common.◌∙◌, lemmas.Result.err_from_is_err_and}
+use Rattle.script_codec.proofs.{Lists.no_kind, Lists.at_end, Lists.bad_line, Lists.too_many, NextLines.takes_at}
 use Rattle.script_codec.proofs.reader.read_at.Goals as goal
 
 pub returns-in_err-kind-clause-next : goal.returns-in_err-kind-clause-next

@@ -1,7 +1,5 @@
-use Rattle.std.proofs.Common.{◌≡◌, ◌++◌, refl, ap, ◌∙◌}
-use Rattle.std.proofs.lemmas.Result.{on_ok_weaker}
-use Rattle.script_codec.specs.Writing.{WritesScript, script_bytes}
-use Rattle.script_codec.proofs.WritingLaws.{reads_back}
+use Rattle.std.proofs.{Common.◌≡◌, Common.◌++◌, Common.refl, Common.ap, Common.◌∙◌, lemmas.Result.on_ok_weaker}
+use Rattle.script_codec.{specs.Writing.WritesScript, specs.Writing.script_bytes, proofs.WritingLaws.reads_back}
 use Rattle.script_codec.proofs.writing.write.Goals as goal
 
 pub returns-clause-appended : goal.returns-clause-appended

@@ -1,5 +1,4 @@
-use Rattle.std.proofs.Common.{arith, ◌+◌, ◌*◌, length, ◌<◌}
-use Rattle.std.specs.Int.{w64}
+use Rattle.std.{proofs.Common.arith, proofs.Common.◌+◌, proofs.Common.◌*◌, proofs.Common.length, proofs.Common.◌<◌, specs.Int.w64}
 use Rattle.cci_codec.specs.dcd_base.specs.Layouts.{Number}
 use Rattle.script_codec.proofs.Adding.{appends_member, within_seats}
 use Rattle.script_codec.proofs.writing.write_bases.Goals as goal

@@ -1,5 +1,4 @@
-use Rattle.std.proofs.Common.{take, map, length, ◌+◌, ◌*◌}
-use Rattle.std.specs.Int.{w64}
+use Rattle.std.{proofs.Common.take, proofs.Common.map, proofs.Common.length, proofs.Common.◌+◌, proofs.Common.◌*◌, specs.Int.w64}
 use Rattle.cci_codec.specs.dcd_base.specs.Layouts.{Number}
 use Rattle.script_codec.specs.Writing.{AppendsLines}
 use Rattle.script_codec.proofs.writing.write_bases.Given as goal

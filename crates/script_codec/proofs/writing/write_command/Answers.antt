@@ -1,7 +1,6 @@
 use Rattle.std.proofs.lemmas.Result.{on_ok_weaker}
 use Rattle.cci_codec.specs.Messages.{request_fields}
-use Rattle.script_codec.specs.Writing.{AppendsLines}
-use Rattle.script_codec.proofs.Adding.{appends_then}
+use Rattle.script_codec.{specs.Writing.AppendsLines, proofs.Adding.appends_then}
 use Rattle.script_codec.proofs.writing.write_command.Goals as goal
 
 pub returns : goal.returns

@@ -1,7 +1,5 @@
-use Rattle.std.proofs.Common.{take}
-use Rattle.std.specs.Prelude.{flat_map}
-use Rattle.script_codec.specs.Scripts.{line_fields}
-use Rattle.script_codec.specs.Writing.{AppendsLines}
+use Rattle.std.{proofs.Common.take, specs.Prelude.flat_map}
+use Rattle.script_codec.specs.{Scripts.line_fields, Writing.AppendsLines}
 use Rattle.script_codec.proofs.writing.write_lines.Given as goal
 
 abbrev pub invariant-loop-line : goal.invariant-loop-line

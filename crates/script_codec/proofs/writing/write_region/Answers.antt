@@ -1,8 +1,6 @@
-use Rattle.std.proofs.lemmas.Result.{on_ok_weaker}
-use Rattle.script_codec.specs.Writing.{AppendsLines}
+use Rattle.std.proofs.{lemmas.Result.on_ok_weaker, Common.[], Common.◌∷◌}
+use Rattle.script_codec.{specs.Writing.AppendsLines, proofs.Adding.appends_then}
 use Rattle.cci_codec.specs.dcd_base.specs.Layouts.{Reserved}
-use Rattle.std.proofs.Common.{[], ◌∷◌}
-use Rattle.script_codec.proofs.Adding.{appends_then}
 use Rattle.script_codec.proofs.writing.write_region.Goals as goal
 
 pub returns : goal.returns

@@ -1,7 +1,6 @@
 use Rattle.std.proofs.Common.{arith}
 use Rattle.region_config.specs.Granules.{no_region}
-use Rattle.script_codec.specs.Scripts.{region_fields}
-use Rattle.script_codec.proofs.Adding.{appends_item}
+use Rattle.script_codec.{specs.Scripts.region_fields, proofs.Adding.appends_item}
 use Rattle.script_codec.proofs.writing.write_regions.Goals as goal
 
 pub loop-region-preserved : goal.loop-region-preserved

@@ -1,5 +1,4 @@
-use Rattle.std.proofs.Common.{◌≡◌, ◌++◌}
-use Rattle.std.proofs.lemmas.Result.{on_ok_weaker}
+use Rattle.std.proofs.{Common.◌≡◌, Common.◌++◌, lemmas.Result.on_ok_weaker}
 use Rattle.cci_codec.specs.Messages.{request_bytes, WritesRequest}
 use Rattle.script_codec.proofs.writing.write_request.Goals as goal
 

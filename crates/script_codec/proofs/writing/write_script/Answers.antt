@@ -1,12 +1,6 @@
-use Rattle.std.proofs.Common.{[], ◌∷◌, subst, sym}
-use Rattle.std.specs.Prelude.{IsTrue}
-use Rattle.std.specs.Int.{w8}
-use Rattle.std.specs.List.{All}
-use Rattle.std.proofs.lemmas.Result.{on_ok_weaker}
+use Rattle.std.{proofs.Common.[], proofs.Common.◌∷◌, proofs.Common.subst, proofs.Common.sym, specs.Prelude.IsTrue, specs.Int.w8, specs.List.All, proofs.lemmas.Result.on_ok_weaker}
 use Rattle.cci_codec.specs.dcd_base.specs.Layouts.{Number}
-use Rattle.script_codec.specs.Writing.{AppendsLines, has_spelling}
-use Rattle.script_codec.proofs.Adding.{appends_then}
-use Rattle.script_codec.proofs.Writable.{writable_lines}
+use Rattle.script_codec.{specs.Writing.AppendsLines, specs.Writing.has_spelling, proofs.Adding.appends_then, proofs.Writable.writable_lines}
 use Rattle.script_codec.proofs.writing.write_script.Goals as goal
 
 pub write_lines-requires : goal.write_lines-requires

@@ -1,9 +1,6 @@
-use Rattle.std.proofs.Common.{[], ◌∷◌}
-use Rattle.std.specs.Int.{w64}
-use Rattle.std.proofs.lemmas.Result.{on_ok_weaker}
+use Rattle.std.{proofs.Common.[], proofs.Common.◌∷◌, specs.Int.w64, proofs.lemmas.Result.on_ok_weaker}
 use Rattle.cci_codec.specs.dcd_base.specs.Layouts.{Number}
-use Rattle.script_codec.specs.Writing.{AppendsLines}
-use Rattle.script_codec.proofs.Adding.{appends_then}
+use Rattle.script_codec.{specs.Writing.AppendsLines, proofs.Adding.appends_then}
 use Rattle.script_codec.proofs.writing.write_store.Goals as goal
 
 pub returns : goal.returns

@@ -1,5 +1,4 @@
-use Rattle.script_gen.specs.Generated.{generated}
-use Rattle.script_gen.proofs.Sound.{writable}
+use Rattle.script_gen.{specs.Generated.generated, proofs.Sound.writable}
 use Rattle.script_gen.proofs.generating.generate.Goals as goal
 
 pub returns-clause-writable : goal.returns-clause-writable

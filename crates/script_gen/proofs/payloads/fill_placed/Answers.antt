@@ -1,9 +1,6 @@
 use Rattle.std.proofs.Common.{◌∷◌, ◌++◌, [], ◌∙◌, ap, append-nil, rules, sym}
-use Rattle.dcd_base.specs.Words.{zero_tag}
-use Rattle.dcd_base.proofs.Filling.{filled}
-use Rattle.dcd_base.specs.Extents.{extent_bytes}
-use Rattle.fm_payloads.proofs.ManagerWritten.{placed_spelled}
-use Rattle.fm_payloads.specs.ManagerPayloads.{placed_head}
+use Rattle.dcd_base.{specs.Words.zero_tag, proofs.Filling.filled, specs.Extents.extent_bytes}
+use Rattle.fm_payloads.{proofs.ManagerWritten.placed_spelled, specs.ManagerPayloads.placed_head}
 use Rattle.script_gen.proofs.payloads.fill_placed.Goals as goal
 
 pub returns : goal.returns

@@ -1,6 +1,5 @@
 use Rattle.std.proofs.Common.{arith}
-use Rattle.script_gen.specs.Generated.{give_back_line, give_back_lines}
-use Rattle.script_gen.proofs.Stepping.{puts_one_more}
+use Rattle.script_gen.{specs.Generated.give_back_line, specs.Generated.give_back_lines, proofs.Stepping.puts_one_more}
 use Rattle.script_gen.proofs.rounds.append_give_backs.Goals as goal
 
 pub loop-host-preserved : goal.loop-host-preserved

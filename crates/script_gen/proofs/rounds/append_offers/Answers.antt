@@ -1,6 +1,5 @@
 use Rattle.std.proofs.Common.{arith}
-use Rattle.script_gen.specs.Generated.{offer_line, offers_lines}
-use Rattle.script_gen.proofs.Stepping.{puts_one_more}
+use Rattle.script_gen.{specs.Generated.offer_line, specs.Generated.offers_lines, proofs.Stepping.puts_one_more}
 use Rattle.script_gen.proofs.rounds.append_offers.Goals as goal
 
 pub loop-host-preserved : goal.loop-host-preserved

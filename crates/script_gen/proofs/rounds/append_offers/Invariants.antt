@@ -1,5 +1,4 @@
-use Rattle.std.proofs.Common.{◌≡◌, ◌++◌, map}
-use Rattle.std.specs.List.{range_with_len}
+use Rattle.std.{proofs.Common.◌≡◌, proofs.Common.◌++◌, proofs.Common.map, specs.List.range_with_len}
 use Rattle.script_gen.specs.Generated.{offer_line}
 use Rattle.script_gen.proofs.rounds.append_offers.Given as goal
 

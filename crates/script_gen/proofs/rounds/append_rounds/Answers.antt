@@ -1,6 +1,5 @@
 use Rattle.std.proofs.Common.{◌*◌, refl, sym, append-nil}
-use Rattle.script_gen.specs.Drawing.{draws_after, round_by}
-use Rattle.script_gen.proofs.Stepping.{draws_more, puts_more}
+use Rattle.script_gen.{specs.Drawing.draws_after, specs.Drawing.round_by, proofs.Stepping.draws_more, proofs.Stepping.puts_more}
 use Rattle.script_gen.proofs.rounds.append_rounds.Goals as goal
 
 pub loop-round-init : goal.loop-round-init

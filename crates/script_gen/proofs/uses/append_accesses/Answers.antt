@@ -1,6 +1,5 @@
 use Rattle.std.proofs.Common.{◌*◌, refl, sym, append-nil}
-use Rattle.script_gen.specs.Drawing.{access_by, draws_after}
-use Rattle.script_gen.proofs.Stepping.{draws_more, puts_more}
+use Rattle.script_gen.{specs.Drawing.access_by, specs.Drawing.draws_after, proofs.Stepping.draws_more, proofs.Stepping.puts_more}
 use Rattle.script_gen.proofs.uses.append_accesses.Goals as goal
 
 pub loop-word-init : goal.loop-word-init

@@ -1,6 +1,5 @@
 use Rattle.std.proofs.Common.{◌*◌, refl, sym, append-nil}
-use Rattle.script_gen.specs.Drawing.{draws_after, use_by}
-use Rattle.script_gen.proofs.Stepping.{draws_more, puts_more}
+use Rattle.script_gen.{specs.Drawing.draws_after, specs.Drawing.use_by, proofs.Stepping.draws_more, proofs.Stepping.puts_more}
 use Rattle.script_gen.proofs.uses.append_uses.Goals as goal
 
 pub loop-host-init : goal.loop-host-init

@@ -1,10 +1,7 @@
 use Rattle.std.proofs.Common.{◌≡◌, ◌++◌, [], List, None, length, append-nil, append_assoc, ap, arith, length-append, refl, subst, sym, ◌∙◌}
 use Rattle.region_config.specs.Configurations.{Configuration}
-use Rattle.script_gen.specs.script_codec.specs.declared.script_line.Line.{Line}
-use Rattle.script_gen.specs.Drawing.{IsNextRound, IsRound}
-use Rattle.script_gen.specs.Generated.{generated, generated_config, generated_lines}
-use Rattle.script_runner.specs.Fronts.{RanLines, RunsLines}
-use Rattle.script_runner.proofs.Fronts.{ran_all, ran_none}
+use Rattle.script_gen.specs.{script_codec.specs.declared.script_line.Line.Line, Drawing.IsNextRound, Drawing.IsRound, Generated.generated, Generated.generated_config, Generated.generated_lines}
+use Rattle.script_runner.{specs.Fronts.RanLines, specs.Fronts.RunsLines, proofs.Fronts.ran_all, proofs.Fronts.ran_none}
 use Rattle.script_runner.proofs.generated.run_rounds.Goals as goal
 
 pub loop-device-init : goal.loop-device-init

@@ -1,6 +1,5 @@
 use Rattle.std.proofs.Common.{◌≡◌, ◌+◌, ◌++◌, length, List}
-use Rattle.script_gen.specs.script_codec.specs.declared.script_line.Line.{Line}
-use Rattle.script_gen.specs.Generated.{generated_config, generated_lines}
+use Rattle.script_gen.specs.{script_codec.specs.declared.script_line.Line.Line, Generated.generated_config, Generated.generated_lines}
 use Rattle.script_runner.specs.Fronts.{RanLines}
 use Rattle.script_runner.proofs.generated.run_rounds.Given as goal
 

@@ -2,8 +2,7 @@ use Rattle.std.proofs.Common.{◌≡◌, ◌+◌, ◌∷◌, [], ◌++◌, take,
 use Rattle.std.proofs.lemmas.List.{length-take-le, take_more}
 use Rattle.region_config.specs.Configurations.{Configuration}
 use Rattle.script_gen.specs.script_codec.specs.declared.script_line.Line.{Line}
-use Rattle.script_runner.specs.Fronts.{RunsLine, RunsLines}
-use Rattle.script_runner.proofs.Fronts.{runs_one_more}
+use Rattle.script_runner.{specs.Fronts.RunsLine, specs.Fronts.RunsLines, proofs.Fronts.runs_one_more}
 use Rattle.script_runner.proofs.lines.run_lines.Goals as goal
 
 pub loop-line-preserved : goal.loop-line-preserved

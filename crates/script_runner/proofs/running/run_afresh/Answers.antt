@@ -1,6 +1,5 @@
 use Rattle.std.proofs.Common.{◌≡◌, ap, length, sym, subst, drop, arith}
-use Rattle.script_runner.specs.ScriptPasses.{AreNewPasses, HaveRun}
-use Rattle.script_runner.proofs.LinesRan.{front_taken}
+use Rattle.script_runner.{specs.ScriptPasses.AreNewPasses, specs.ScriptPasses.HaveRun, proofs.LinesRan.front_taken}
 use Rattle.script_runner.proofs.running.run_afresh.Goals as goal
 
 pub run_lines-requires-clause-new : goal.run_lines-requires-clause-new

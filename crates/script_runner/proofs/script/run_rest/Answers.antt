@@ -1,11 +1,8 @@
 use Rattle.std.proofs.Common.{◌≡◌, ◌+◌, ◌∷◌, [], ◌++◌, Ok, ap, arith, subst, sym, ◌∙◌}
 use Rattle.std.proofs.lemmas.List.{length_push}
 use Rattle.region_config.specs.Configurations.{Configuration}
-use Rattle.script_gen.specs.script_codec.specs.LineByLine.{IsRead, TakesLine}
-use Rattle.script_gen.specs.script_codec.specs.declared.script_line.Line.{Line}
-use Rattle.script_gen.specs.script_codec.proofs.Lists.{lines_go_on, with_lines}
-use Rattle.script_runner.specs.Fronts.{RunsLine}
-use Rattle.script_runner.proofs.Fronts.{ran_one_more}
+use Rattle.script_gen.specs.script_codec.{specs.LineByLine.IsRead, specs.LineByLine.TakesLine, specs.declared.script_line.Line.Line, proofs.Lists.lines_go_on, proofs.Lists.with_lines}
+use Rattle.script_runner.{specs.Fronts.RunsLine, proofs.Fronts.ran_one_more}
 use Rattle.script_runner.proofs.script.run_rest.Goals as goal
 
 pub loop-line-preserved : goal.loop-line-preserved

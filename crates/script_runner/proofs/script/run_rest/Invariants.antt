@@ -1,6 +1,5 @@
 use Rattle.std.proofs.Common.{◌≡◌, ◌+◌, length, List}
-use Rattle.script_gen.specs.script_codec.specs.declared.script_line.Line.{Line}
-use Rattle.script_gen.specs.script_codec.proofs.Lists.{with_lines}
+use Rattle.script_gen.specs.script_codec.{specs.declared.script_line.Line.Line, proofs.Lists.with_lines}
 use Rattle.script_runner.specs.Fronts.{RanLines}
 use Rattle.script_runner.proofs.script.run_rest.Given as goal
 

@@ -1,8 +1,6 @@
-use Rattle.std.proofs.Common.{subst, sym, ◌∙◌}
-use Rattle.std.proofs.lemmas.Result.{err_from_is_err_and}
+use Rattle.std.proofs.{Common.subst, Common.sym, Common.◌∙◌, lemmas.Result.err_from_is_err_and}
 use Rattle.region_config.specs.Configurations.{Configuration}
-use Rattle.script_runner.specs.Fronts.{RanRest}
-use Rattle.script_runner.proofs.Fronts.{fault_behind, ran_script}
+use Rattle.script_runner.{specs.Fronts.RanRest, proofs.Fronts.fault_behind, proofs.Fronts.ran_script}
 use Rattle.script_runner.proofs.script.run_script.Goals as goal
 
 pub returns-clause-ran : goal.returns-clause-ran

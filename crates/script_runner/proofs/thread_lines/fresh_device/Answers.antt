@@ -1,6 +1,5 @@
 use Rattle.std.proofs.Common.{sym, subst}
-use Rattle.shared_device.specs.Commanding.{actors_of}
-use Rattle.shared_device.specs.Passing.{IsNewPass}
+use Rattle.shared_device.specs.{Commanding.actors_of, Passing.IsNewPass}
 use Rattle.script_runner.proofs.NewPassesReady.{both_ok}
 use Rattle.script_runner.proofs.thread_lines.fresh_device.Goals as goal
 

@@ -1,7 +1,5 @@
 use Rattle.std.proofs.lemmas.Result.{on_ok_weaker}
-use Rattle.script_runner.specs.declared.gated.Gated.{Gated}
-use Rattle.script_runner.proofs.LinesRan.{all_ran}
-use Rattle.script_runner.proofs.NewPassesReady.{all_ready}
+use Rattle.script_runner.{specs.declared.gated.Gated.Gated, proofs.LinesRan.all_ran, proofs.NewPassesReady.all_ready}
 use Rattle.script_runner.proofs.thread_lines.run_lines.Goals as goal
 
 pub run_phases-requires-clause-ready : goal.run_phases-requires-clause-ready

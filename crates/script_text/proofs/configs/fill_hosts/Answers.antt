@@ -1,6 +1,5 @@
 use Rattle.std.proofs.Common.{◌≡◌, ◌+◌, ◌*◌, Ok, suc, sym, ap, ◌∙◌, arith}
-use Rattle.std.proofs.Math.Nat.{suc-mul}
-use Rattle.std.proofs.lemmas.Result.{err_from_is_err_and}
+use Rattle.std.proofs.{Math.Nat.suc-mul, lemmas.Result.err_from_is_err_and}
 use Rattle.text_lines.specs.Unread.{Ahead}
 use Rattle.script_text.proofs.LineLoops.{hosts_end, hosts_fail, hosts_go_on}
 use Rattle.script_text.proofs.configs.fill_hosts.Goals as goal

@@ -1,10 +1,7 @@
-use Rattle.std.proofs.Common.{◌≡◌, Ok, length, sym, ap, ◌∙◌, arith}
+use Rattle.std.proofs.{Common.◌≡◌, Common.Ok, Common.length, Common.sym, Common.ap, Common.◌∙◌, Common.arith, lemmas.List.length_push, lemmas.Result.err_from_is_err_and}
 use Rattle.std.specs.Prelude.{vec_len}
-use Rattle.std.proofs.lemmas.List.{length_push}
-use Rattle.std.proofs.lemmas.Result.{err_from_is_err_and}
 use Rattle.text_lines.specs.Unread.{Ahead}
-use Rattle.script_text.specs.Heads.{region_ahead}
-use Rattle.script_text.proofs.LineLoops.{regions_end, regions_fail, regions_go_on}
+use Rattle.script_text.{specs.Heads.region_ahead, proofs.LineLoops.regions_end, proofs.LineLoops.regions_fail, proofs.LineLoops.regions_go_on}
 use Rattle.script_text.proofs.configs.fill_regions.Goals as goal
 
 pub returns-in_err-region-clause-value : goal.returns-in_err-region-clause-value

@@ -1,5 +1,4 @@
-use Rattle.std.proofs.Common.{◌-◌, ◌+◌, arith, rules}
-use Rattle.std.proofs.lemmas.Result.{err_from_is_err_and}
+use Rattle.std.proofs.{Common.◌-◌, Common.◌+◌, Common.arith, Common.rules, lemmas.Result.err_from_is_err_and}
 use Rattle.script_text.proofs.LineLoops.{bases_end, bases_fail, bases_go_on}
 use Rattle.script_text.proofs.heads.bases.Goals as goal
 

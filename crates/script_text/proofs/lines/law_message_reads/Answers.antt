@@ -1,5 +1,4 @@
-use Rattle.cci_codec.specs.Messages.{request_bytes}
-use Rattle.cci_codec.proofs.Reading.{request_spelled}
+use Rattle.cci_codec.{specs.Messages.request_bytes, proofs.Reading.request_spelled}
 use Rattle.script_text.proofs.lines.law_message_reads.Goals as goal
 
 pub returns : goal.returns

@@ -1,10 +1,7 @@
-use Rattle.std.proofs.Common.{◌∷◌, ◌++◌, [], sym, ◌∙◌}
-use Rattle.std.proofs.lemmas.Result.{on_ok_weaker}
+use Rattle.std.proofs.{Common.◌∷◌, Common.◌++◌, Common.[], Common.sym, Common.◌∙◌, lemmas.Result.on_ok_weaker}
 use Rattle.cci_codec.specs.Messages.{request_bytes}
-use Rattle.text_lines.specs.Layouts.{command_line, host_request_parts, tag_part}
-use Rattle.text_lines.specs.Parts.{Part}
-use Rattle.script_text.specs.LinePrinting.{AddsLine}
-use Rattle.script_text.proofs.PrintedActs.{host_named_printed, host_told_printed}
+use Rattle.text_lines.specs.{Layouts.command_line, Layouts.host_request_parts, Layouts.tag_part, Parts.Part}
+use Rattle.script_text.{specs.LinePrinting.AddsLine, proofs.PrintedActs.host_named_printed, proofs.PrintedActs.host_told_printed}
 use Rattle.script_text.proofs.lines.write_host_command.Goals as goal
 
 pub returns-in-Some : goal.returns-in-Some

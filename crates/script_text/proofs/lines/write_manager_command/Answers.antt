@@ -1,10 +1,7 @@
-use Rattle.std.proofs.Common.{◌∷◌, ◌++◌, [], sym, ◌∙◌}
-use Rattle.std.proofs.lemmas.Result.{on_ok_weaker}
+use Rattle.std.proofs.{Common.◌∷◌, Common.◌++◌, Common.[], Common.sym, Common.◌∙◌, lemmas.Result.on_ok_weaker}
 use Rattle.cci_codec.specs.Messages.{request_bytes}
-use Rattle.text_lines.specs.Layouts.{command_line, manager_request_parts, tag_part}
-use Rattle.text_lines.specs.Parts.{Part}
-use Rattle.script_text.specs.LinePrinting.{AddsLine}
-use Rattle.script_text.proofs.PrintedActs.{manager_named_printed, manager_told_printed}
+use Rattle.text_lines.specs.{Layouts.command_line, Layouts.manager_request_parts, Layouts.tag_part, Parts.Part}
+use Rattle.script_text.{specs.LinePrinting.AddsLine, proofs.PrintedActs.manager_named_printed, proofs.PrintedActs.manager_told_printed}
 use Rattle.script_text.proofs.lines.write_manager_command.Goals as goal
 
 pub returns-in-Some : goal.returns-in-Some

@@ -1,6 +1,5 @@
 use Rattle.std.proofs.Common.{[]}
-use Rattle.text_lines.specs.Parts.{SaysExtent}
-use Rattle.text_lines.specs.Extents.{extent_text}
+use Rattle.text_lines.specs.{Parts.SaysExtent, Extents.extent_text}
 use Rattle.script_text.proofs.PrintedParts.{items_more, items_none, untagged_at}
 use Rattle.script_text.proofs.lists.write_all_extents.Goals as goal
 

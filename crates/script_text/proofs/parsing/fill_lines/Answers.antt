@@ -1,7 +1,5 @@
-use Rattle.std.proofs.Common.{Err, sym, ap, ◌∙◌}
-use Rattle.std.proofs.lemmas.Result.{err_from_is_err_and}
-use Rattle.text_lines.specs.declared.faults.Cause.{Cause}
-use Rattle.text_lines.specs.declared.faults.TextFault.{TextFault}
+use Rattle.std.proofs.{Common.Err, Common.sym, Common.ap, Common.◌∙◌, lemmas.Result.err_from_is_err_and}
+use Rattle.text_lines.specs.declared.faults.{Cause.Cause, TextFault.TextFault}
 use Rattle.script_text.proofs.LineLoops.{lines_end, lines_go_on, opening_fails, rest_fails, room_fails}
 use Rattle.script_text.proofs.parsing.fill_lines.Goals as goal
 

@@ -1,9 +1,6 @@
 use Rattle.std.proofs.Common.{◌<◌, [], ◌∷◌, arith, length, subst, sym, ◌∙◌}
-use Rattle.script_text.specs.Layouts.{bases_of_host}
-use Rattle.text_lines.specs.Layouts.{most_64}
-use Rattle.text_lines.specs.Parts.{Form, Part}
-use Rattle.script_text.specs.LinePrinting.{AddsParts}
-use Rattle.script_text.proofs.PrintedScripts.{base_is, base_within, bases_more}
+use Rattle.script_text.{specs.Layouts.bases_of_host, specs.LinePrinting.AddsParts, proofs.PrintedScripts.base_is, proofs.PrintedScripts.base_within, proofs.PrintedScripts.bases_more}
+use Rattle.text_lines.specs.{Layouts.most_64, Parts.Form, Parts.Part}
 use Rattle.script_text.proofs.printing.write_bases.Goals as goal
 
 pub loop-region-preserved : goal.loop-region-preserved

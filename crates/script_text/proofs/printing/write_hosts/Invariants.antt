@@ -1,6 +1,5 @@
 use Rattle.std.proofs.Common.{length}
-use Rattle.script_text.specs.Layouts.{hosts_parts}
-use Rattle.script_text.specs.Printing.{AddsLines}
+use Rattle.script_text.specs.{Layouts.hosts_parts, Printing.AddsLines}
 use Rattle.script_text.proofs.printing.write_hosts.Given as goal
 
 abbrev pub invariant-loop-host : goal.invariant-loop-host

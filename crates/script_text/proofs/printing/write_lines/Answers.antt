@@ -1,6 +1,5 @@
 use Rattle.std.proofs.Common.{subst}
-use Rattle.script_text.specs.LinePrinting.{PrintsLine}
-use Rattle.script_text.proofs.PrintedScripts.{script_lines_more}
+use Rattle.script_text.{specs.LinePrinting.PrintsLine, proofs.PrintedScripts.script_lines_more}
 use Rattle.script_text.proofs.printing.write_lines.Goals as goal
 
 pub loop-line-preserved : goal.loop-line-preserved

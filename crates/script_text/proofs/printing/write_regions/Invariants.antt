@@ -1,6 +1,5 @@
 use Rattle.std.proofs.Common.{take}
-use Rattle.script_text.specs.Layouts.{regions_parts}
-use Rattle.script_text.specs.Printing.{AddsLines}
+use Rattle.script_text.specs.{Layouts.regions_parts, Printing.AddsLines}
 use Rattle.script_text.proofs.printing.write_regions.Given as goal
 
 abbrev pub invariant-loop-region : goal.invariant-loop-region

@@ -1,5 +1,4 @@
-use Rattle.std.proofs.Common.{◌≡◌, length, min, take}
-use Rattle.std.specs.Prelude.{flat_map}
+use Rattle.std.{proofs.Common.◌≡◌, proofs.Common.length, proofs.Common.min, proofs.Common.take, specs.Prelude.flat_map}
 use Rattle.dcd_base.specs.Layouts.{spelling}
 use Rattle.text_lines.specs.script_codec.specs.Scripts.{line_fields}
 use Rattle.script_text.proofs.sizes.size_of_lines.Given as goal

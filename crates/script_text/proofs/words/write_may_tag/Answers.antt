@@ -1,6 +1,5 @@
 use Rattle.std.proofs.Common.{sym, ◌∙◌}
-use Rattle.script_text.proofs.PrintLaws.{adds_then}
-use Rattle.script_text.proofs.PrintedParts.{may_tag_none, may_tag_some}
+use Rattle.script_text.proofs.{PrintLaws.adds_then, PrintedParts.may_tag_none, PrintedParts.may_tag_some}
 use Rattle.script_text.proofs.words.write_may_tag.Goals as goal
 
 pub returns-then-is_no_tag : goal.returns-then-is_no_tag

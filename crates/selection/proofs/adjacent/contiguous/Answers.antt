@@ -1,8 +1,7 @@
 use Rattle.std.proofs.Common.{◌≡◌, ◌+◌, List, rules, subst, sym, true}
 use Rattle.extent_list.specs.dcd_codes.specs.dcd_base.specs.declared.media.Run.{Run}
 use Rattle.granule_map.specs.StateLists.{is_free_at}
-use Rattle.selection.specs.Selections.{AreBetween, are_free, contiguous_runs}
-use Rattle.selection.proofs.Chosen.{contiguous_are_free, contiguous_between}
+use Rattle.selection.{specs.Selections.AreBetween, specs.Selections.are_free, specs.Selections.contiguous_runs, proofs.Chosen.contiguous_are_free, proofs.Chosen.contiguous_between}
 use Rattle.selection.proofs.adjacent.contiguous.Goals as goal
 
 pub returns-in_ok-push-in-Some-clause-within : goal.returns-in_ok-push-in-Some-clause-within

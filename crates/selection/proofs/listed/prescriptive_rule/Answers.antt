@@ -1,13 +1,9 @@
 use Rattle.std.proofs.Common.{◌≡◌, [], None, ap, arith, false, rules, sym, ◌∙◌}
 use Rattle.std.proofs.lemmas.List.{take_all}
-use Rattle.extent_list.specs.dcd_codes.specs.dcd_base.specs.declared.capacity.Extent.{Extent}
-use Rattle.extent_list.specs.dcd_codes.specs.dcd_base.specs.Words.{is_empty}
-use Rattle.extent_list.specs.dcd_codes.specs.Rules.{each_in}
-use Rattle.extent_list.specs.dcd_codes.proofs.RuleSteps.{each_in_found, each_in_more}
+use Rattle.extent_list.specs.{Listing.too_many_listed, dcd_codes.proofs.RuleSteps.each_in_found, dcd_codes.proofs.RuleSteps.each_in_more, dcd_codes.specs.Rules.each_in}
+use Rattle.extent_list.specs.dcd_codes.specs.dcd_base.specs.{Words.is_empty, declared.capacity.Extent.Extent}
 use Rattle.granule_map.specs.StateLists.{is_free_at}
-use Rattle.extent_list.specs.Listing.{too_many_listed}
-use Rattle.selection.specs.Selections.{free_extent_rule}
-use Rattle.selection.proofs.Prescribed.{extent_broken, kept_apart, kept_free, kept_runs}
+use Rattle.selection.{specs.Selections.free_extent_rule, proofs.Prescribed.extent_broken, proofs.Prescribed.kept_apart, proofs.Prescribed.kept_free, proofs.Prescribed.kept_runs}
 use Rattle.selection.proofs.listed.prescriptive_rule.Goals as goal
 
 -- what an index past the end would give

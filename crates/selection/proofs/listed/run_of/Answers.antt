@@ -1,5 +1,4 @@
-use Rattle.std.proofs.Common.{sym, ◌∙◌}
-use Rattle.std.proofs.lemmas.Option.{none-some}
+use Rattle.std.proofs.{Common.sym, Common.◌∙◌, lemmas.Option.none-some}
 use Rattle.extent_list.specs.media_map.specs.Places.{run_of}
 use Rattle.selection.proofs.Placed.{granular_run, run_below}
 use Rattle.selection.proofs.listed.run_of.Goals as goal

@@ -1,7 +1,5 @@
 use Rattle.std.proofs.Common.{◌≡◌, ◌+◌, ◌-◌, ◌++◌, length, map}
-use Rattle.granule_map.specs.Blocks.{block_count, is_block_free}
-use Rattle.granule_map.specs.Choices.{joined, lowest_from}
-use Rattle.granule_map.specs.StateLists.{is_free_at}
+use Rattle.granule_map.specs.{Blocks.block_count, Blocks.is_block_free, Choices.joined, Choices.lowest_from, StateLists.is_free_at}
 use Rattle.selection.specs.Selections.{always_together, free_runs, granules_of_blocks}
 use Rattle.selection.proofs.lowest.find_lowest.Given as goal
 

@@ -1,14 +1,9 @@
 use Rattle.std.proofs.Common.{◌≡◌, ◌+◌, ◌<◌, Err, List, arith, refl, lt-ltb, subst, sym, true}
-use Rattle.std.specs.List.{range_with_len}
-use Rattle.std.proofs.lemmas.List.FromFn.{length-range_with_len}
-use Rattle.std.proofs.lemmas.List.Sums.{count_by-le-length, length-filter}
-use Rattle.extent_list.specs.dcd_codes.specs.dcd_base.specs.declared.media.Run.{Run}
-use Rattle.extent_list.specs.dcd_codes.specs.declared.refusals.Refusal.{Refusal}
-use Rattle.granule_map.specs.Blocks.{block_count, free_block_count, is_block_free}
-use Rattle.granule_map.specs.StateLists.{is_free_at}
-use Rattle.selection.specs.Picks.{PicksLowest}
+use Rattle.std.{specs.List.range_with_len, proofs.lemmas.List.FromFn.length-range_with_len, proofs.lemmas.List.Sums.count_by-le-length, proofs.lemmas.List.Sums.length-filter}
+use Rattle.extent_list.specs.dcd_codes.specs.{dcd_base.specs.declared.media.Run.Run, declared.refusals.Refusal.Refusal}
+use Rattle.granule_map.specs.{Blocks.block_count, Blocks.free_block_count, Blocks.is_block_free, StateLists.is_free_at}
+use Rattle.selection.{proofs.Chosen.between_apart, proofs.Chosen.free_are_free, proofs.Chosen.free_between, specs.Picks.PicksLowest}
 use Rattle.selection.specs.Selections.{AreApart, AreBetween, are_free}
-use Rattle.selection.proofs.Chosen.{between_apart, free_are_free, free_between}
 use Rattle.selection.proofs.lowest.free.Goals as goal
 
 pub returns-clause-within : goal.returns-clause-within

@@ -1,11 +1,7 @@
 use Rattle.std.proofs.Common.{◌≡◌, ◌+◌, ◌-◌, min, ap, subst, sym, arith, false, length, length-append, refl}
-use Rattle.std.specs.List.{range_with_len}
-use Rattle.std.proofs.lemmas.List.FromFn.{length-range_with_len}
-use Rattle.granule_map.specs.Blocks.{block_count, is_block_free}
-use Rattle.granule_map.specs.Choices.{lowest_from}
-use Rattle.granule_map.specs.Stretches.{IsStretch}
-use Rattle.granule_map.proofs.Joining.{IsFound, found_next, found_run, lowest_split, none_left}
-use Rattle.granule_map.proofs.Stretches.{first_found, no_stretch, prefix_is}
+use Rattle.std.{specs.List.range_with_len, proofs.lemmas.List.FromFn.length-range_with_len}
+use Rattle.granule_map.proofs.{Joining.IsFound, Joining.found_next, Joining.found_run, Joining.lowest_split, Joining.none_left, Stretches.first_found, Stretches.no_stretch, Stretches.prefix_is}
+use Rattle.granule_map.specs.{Blocks.block_count, Blocks.is_block_free, Choices.lowest_from, Stretches.IsStretch}
 use Rattle.selection.specs.Selections.{always_together}
 use Rattle.selection.proofs.lowest.next_run.Goals as goal
 

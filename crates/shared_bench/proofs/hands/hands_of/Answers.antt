@@ -1,9 +1,5 @@
-use Rattle.std.proofs.Common.{List, subst}
-use Rattle.std.specs.List.{All}
-use Rattle.std.specs.Vec.Iter.{into_iter_items}
-use Rattle.std.proofs.lemmas.List.Elements.{All-tail}
-use Rattle.shared_device.specs.declared.pass.Pass.{Pass}
-use Rattle.shared_device.specs.Passing.{IsOneOf}
+use Rattle.std.{proofs.Common.List, proofs.Common.subst, specs.List.All, specs.Vec.Iter.into_iter_items, proofs.lemmas.List.Elements.All-tail}
+use Rattle.shared_device.specs.{declared.pass.Pass.Pass, Passing.IsOneOf}
 use Rattle.shared_bench.proofs.hands.hands_of.Goals as goal
 
 pub loop-pass-preserved : goal.loop-pass-preserved

@@ -1,5 +1,4 @@
-use Rattle.std.specs.List.{All}
-use Rattle.std.specs.Vec.Iter.{into_iter_items}
+use Rattle.std.specs.{List.All, Vec.Iter.into_iter_items}
 use Rattle.shared_device.specs.Passing.{IsOneOf}
 use Rattle.shared_bench.proofs.hands.hands_of.Given as goal
 

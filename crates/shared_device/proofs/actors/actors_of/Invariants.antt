@@ -1,5 +1,4 @@
-use Rattle.std.proofs.Common.{◌≡◌}
-use Rattle.std.specs.List.{range_with_len}
+use Rattle.std.{proofs.Common.◌≡◌, specs.List.range_with_len}
 use Rattle.shared_device.proofs.ActorLists.{lanes_of}
 use Rattle.shared_device.proofs.actors.actors_of.Given as goal
 

@@ -1,5 +1,4 @@
-use Rattle.std.proofs.Common.{◌≡◌, ◌++◌}
-use Rattle.std.specs.Prelude.{replicate}
+use Rattle.std.{proofs.Common.◌≡◌, proofs.Common.◌++◌, specs.Prelude.replicate}
 use Rattle.dcd_base.specs.declared.steps.Actor.{Actor}
 use Rattle.shared_device.proofs.actors.push_lanes.Given as goal
 

@@ -1,5 +1,4 @@
-use Rattle.std.specs.Prelude.{◌≡◌, ◌++◌, map, vec_capacity}
-use Rattle.std.specs.Vec.Iter.{into_iter_items}
+use Rattle.std.specs.{Prelude.◌≡◌, Prelude.◌++◌, Prelude.map, Prelude.vec_capacity, Vec.Iter.into_iter_items}
 use Rattle.shared_device.proofs.close.accesses_in.Given as goal
 
 abbrev pub invariant-loop-cell : goal.invariant-loop-cell

@@ -1,11 +1,8 @@
 use Rattle.std.proofs.Common.{List, sym, subst}
-use Rattle.block_shard.specs.journal_core.specs.declared.entries.Entry.{Entry}
-use Rattle.block_shard.specs.journal_core.specs.Merging.{AllRise}
-use Rattle.block_shard.specs.ruled_cells.specs.Calls.{AccountFor, AreAll, seats_of}
-use Rattle.block_shard.specs.shard_laws.specs.Right.{stripe_reads}
-use Rattle.shared_device.specs.Closing.{IsClosed}
+use Rattle.block_shard.specs.journal_core.specs.{Merging.AllRise, declared.entries.Entry.Entry}
+use Rattle.block_shard.specs.{ruled_cells.specs.Calls.AccountFor, ruled_cells.specs.Calls.AreAll, ruled_cells.specs.Calls.seats_of, shard_laws.specs.Right.stripe_reads}
+use Rattle.shared_device.{proofs.ClosedJournal.about_device, proofs.ClosedJournal.are_all_seats, proofs.ClosedJournal.is_closed, proofs.ClosedJournal.lists_rise, specs.Closing.IsClosed}
 use Rattle.shared_device.specs.Commanding.{commanding_reads}
-use Rattle.shared_device.proofs.ClosedJournal.{about_device, are_all_seats, is_closed, lists_rise}
 use Rattle.shared_device.proofs.close.take_apart.Goals as goal
 
 pub close_into-first-requires-clause-all : goal.close_into-first-requires-clause-all

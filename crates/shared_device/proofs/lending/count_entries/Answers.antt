@@ -1,5 +1,4 @@
-use Rattle.std.proofs.Common.{arith, length-append}
-use Rattle.std.specs.Prelude.{flat_map}
+use Rattle.std.{proofs.Common.arith, proofs.Common.length-append, specs.Prelude.flat_map}
 use Rattle.block_shard.specs.journal_core.proofs.Merges.{merged-length}
 use Rattle.shared_device.proofs.lending.count_entries.Goals as goal
 

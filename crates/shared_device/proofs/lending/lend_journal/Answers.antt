@@ -1,7 +1,6 @@
 use Rattle.std.proofs.Common.{◌≡◌, ◌∙◌, ap, subst, sym}
 use Rattle.control_core.specs.Deciding.{AreShort}
-use Rattle.block_shard.specs.journal_core.specs.Entries.{effects}
-use Rattle.block_shard.specs.journal_core.specs.Merging.{Rising, merged}
+use Rattle.block_shard.specs.journal_core.specs.{Entries.effects, Merging.Rising, Merging.merged}
 use Rattle.shared_device.proofs.LentJournal.{all_short, commands_rise, same_effects}
 use Rattle.shared_device.proofs.lending.lend_journal.Goals as goal
 

@@ -1,8 +1,6 @@
 use Rattle.std.proofs.Common.{◌≡◌, ℕ, ◌+◌, [], ◌∷◌, ◌++◌, length, ap, ◌∙◌, rules}
 use Rattle.std.proofs.lemmas.List.{length_push}
-use Rattle.block_shard.specs.shard_laws.specs.Changing.{IsFreshStripe}
-use Rattle.block_shard.specs.shard_laws.specs.Right.{IsRight}
-use Rattle.block_shard.specs.shard_laws.specs.Stripes.{Stripe}
+use Rattle.block_shard.specs.shard_laws.specs.{Changing.IsFreshStripe, Right.IsRight, Stripes.Stripe}
 use Rattle.shared_device.proofs.Fresh.{each_more}
 use Rattle.shared_device.proofs.making.fresh_shards.Goals as goal
 

@@ -1,9 +1,7 @@
 use Rattle.std.proofs.Common.{◌≡◌, ℕ, [], length}
 use mathlib.Core.Option.{some}
 use lib.ListN.{get_elem?}
-use Rattle.block_shard.specs.shard_laws.specs.Changing.{IsFreshStripe}
-use Rattle.block_shard.specs.shard_laws.specs.Right.{IsRight}
-use Rattle.block_shard.specs.shard_laws.specs.Stripes.{Stripe}
+use Rattle.block_shard.specs.shard_laws.specs.{Changing.IsFreshStripe, Right.IsRight, Stripes.Stripe}
 use Rattle.shared_device.proofs.making.fresh_shards.Given as goal
 
 abbrev pub invariant-loop-index : goal.invariant-loop-index

@@ -1,7 +1,5 @@
-use Rattle.std.proofs.Common.{ap, ◌∙◌, drop}
-use Rattle.std.proofs.lemmas.List.{drop-drop}
-use Rattle.text_lines.specs.Numbers.{digits_said, under}
-use Rattle.text_lines.specs.Actors.{host_said, seat_of_parts}
+use Rattle.std.proofs.{Common.ap, Common.◌∙◌, Common.drop, lemmas.List.drop-drop}
+use Rattle.text_lines.specs.{Numbers.digits_said, Numbers.under, Actors.host_said, Actors.seat_of_parts}
 use Rattle.text_lines.proofs.actors.seat_at.Goals as goal
 
 pub returns : goal.returns

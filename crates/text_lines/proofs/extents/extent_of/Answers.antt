@@ -1,8 +1,7 @@
 use Rattle.std.proofs.Common.{◌≡◌, ◌+◌, ◌-◌, ◌^◌, take, drop, sym, ap, ◌∙◌}
 use Rattle.std.proofs.lemmas.List.{drop-drop}
-use Rattle.text_lines.specs.Extents.{after, before, extent_of_parts, extent_said, limited_extent}
-use Rattle.text_lines.specs.Numbers.{limited, number_said}
 use Rattle.text_lines.proofs.ExtentLaws.{no_sign, parts_limited}
+use Rattle.text_lines.specs.{Extents.after, Extents.before, Extents.extent_of_parts, Extents.extent_said, Extents.limited_extent, Numbers.limited, Numbers.number_said}
 use Rattle.text_lines.proofs.extents.extent_of.Goals as goal
 
 pub returns-then-place-word-clause-value : goal.returns-then-place-word-clause-value

@@ -1,7 +1,5 @@
-use Rattle.std.proofs.Common.{sym, arith, not, ap}
-use Rattle.std.proofs.lemmas.Bool.{false_from_ne_true}
-use Rattle.text_lines.specs.Characters.{is_other}
-use Rattle.text_lines.proofs.FrontLaws.{passed_all, passed_to}
+use Rattle.std.proofs.{Common.sym, Common.arith, Common.not, Common.ap, lemmas.Bool.false_from_ne_true}
+use Rattle.text_lines.{specs.Characters.is_other, proofs.FrontLaws.passed_all, proofs.FrontLaws.passed_to}
 use Rattle.text_lines.proofs.fronts.place_of.Goals as goal
 
 pub returns-in-Some-clause-value : goal.returns-in-Some-clause-value

@@ -1,6 +1,5 @@
 use Rattle.std.proofs.Common.{arith}
-use Rattle.text_lines.proofs.PrintedNumbers.{size_reads}
-use Rattle.text_lines.proofs.PrintedWords.{size_word}
+use Rattle.text_lines.proofs.{PrintedNumbers.size_reads, PrintedWords.size_word}
 use Rattle.text_lines.proofs.laws.law_size.Goals as goal
 
 pub returns-clause-reads : goal.returns-clause-reads

@@ -1,8 +1,6 @@
 use Rattle.std.proofs.Common.{suc, ◌≡◌, ◌<◌, ◌∷◌, [], length, drop, arith, ap, ◌∙◌, sym, add-one}
-use Rattle.std.proofs.lemmas.Bool.{eqb-true, eqb-false}
-use Rattle.std.proofs.lemmas.List.{drop-drop}
-use Rattle.text_lines.specs.Words.{lines_in}
-use Rattle.text_lines.proofs.WordLaws.{line_cut, lines_none}
+use Rattle.std.proofs.lemmas.{Bool.eqb-true, Bool.eqb-false, List.drop-drop}
+use Rattle.text_lines.{specs.Words.lines_in, proofs.WordLaws.line_cut, proofs.WordLaws.lines_none}
 use Rattle.text_lines.proofs.line_words.cut_line.Goals as goal
 
 pub returns-then-is_empty-clause-lines : goal.returns-then-is_empty-clause-lines

@@ -1,5 +1,4 @@
-use Rattle.std.proofs.Common.{◌≡◌, length, arith, ap, sym, ◌∙◌}
-use Rattle.std.proofs.lemmas.Bool.{eqb-true}
+use Rattle.std.proofs.{Common.◌≡◌, Common.length, Common.arith, Common.ap, Common.sym, Common.◌∙◌, lemmas.Bool.eqb-true}
 use Rattle.text_lines.proofs.WordLaws.{lines_none}
 use Rattle.text_lines.proofs.line_words.end_of.Goals as goal
 

@@ -1,7 +1,5 @@
 use Rattle.std.proofs.Common.{arith, ap, ◌∙◌}
-use Rattle.text_lines.specs.Unread.{UnreadWords}
-use Rattle.text_lines.specs.Words.{words_in}
-use Rattle.text_lines.proofs.AheadLaws.{nothing_ahead}
+use Rattle.text_lines.{specs.Unread.UnreadWords, specs.Words.words_in, proofs.AheadLaws.nothing_ahead}
 use Rattle.text_lines.proofs.line_words.first_line.Goals as goal
 
 pub loop-words-init : goal.loop-words-init

@@ -1,5 +1,4 @@
-use Rattle.std.proofs.Common.{arith, ◌∙◌, sym}
-use Rattle.std.proofs.lemmas.Bool.{eqb-false}
+use Rattle.std.proofs.{Common.arith, Common.◌∙◌, Common.sym, lemmas.Bool.eqb-false}
 use Rattle.text_lines.proofs.WordLaws.{ended_return, ended_other}
 use Rattle.text_lines.proofs.line_words.without_return.Goals as goal
 

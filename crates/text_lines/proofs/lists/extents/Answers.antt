@@ -1,8 +1,5 @@
-use Rattle.std.proofs.Common.{sym, ◌∙◌}
-use Rattle.std.proofs.lemmas.Result.{err_from_is_err_and}
-use Rattle.text_lines.specs.Fields.{extent_of_word, extents_ahead, list_ahead}
-use Rattle.text_lines.proofs.LoopLaws.{nothing_behind}
-use Rattle.text_lines.proofs.PartLaws.{extents_read}
+use Rattle.std.proofs.{Common.sym, Common.◌∙◌, lemmas.Result.err_from_is_err_and}
+use Rattle.text_lines.{specs.Fields.extent_of_word, specs.Fields.extents_ahead, specs.Fields.list_ahead, proofs.LoopLaws.nothing_behind, proofs.PartLaws.extents_read}
 use Rattle.text_lines.proofs.lists.extents.Goals as goal
 
 pub returns-in_err-fill-clause-value : goal.returns-in_err-fill-clause-value

@@ -1,8 +1,6 @@
-use Rattle.std.proofs.Common.{◌≡◌, ◌-◌, false, ap, sym, ◌∙◌, inl, inr}
-use Rattle.std.proofs.lemmas.Result.{err_from_is_err_and}
-use Rattle.text_lines.specs.Unread.{is_done}
-use Rattle.text_lines.specs.Fields.{and_room, list_behind, list_ahead, one_word}
+use Rattle.std.proofs.{Common.◌≡◌, Common.◌-◌, Common.false, Common.ap, Common.sym, Common.◌∙◌, Common.inl, Common.inr, lemmas.Result.err_from_is_err_and}
 use Rattle.text_lines.proofs.LoopLaws.{list_ends, list_fails, list_goes_on}
+use Rattle.text_lines.specs.{Fields.and_room, Fields.list_behind, Fields.list_ahead, Fields.one_word, Unread.is_done}
 use Rattle.text_lines.proofs.lists.fill.Goals as goal
 
 pub returns-in_err-one_word : goal.returns-in_err-one_word

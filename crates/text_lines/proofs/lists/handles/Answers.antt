@@ -1,6 +1,5 @@
 use Rattle.std.proofs.Common.{rules}
-use Rattle.text_lines.specs.Fields.{handles_ahead}
-use Rattle.text_lines.proofs.PartLaws.{handles_read}
+use Rattle.text_lines.{specs.Fields.handles_ahead, proofs.PartLaws.handles_read}
 use Rattle.text_lines.proofs.lists.handles.Goals as goal
 
 pub returns-clause-value : goal.returns-clause-value

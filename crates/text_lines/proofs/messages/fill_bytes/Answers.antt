@@ -1,6 +1,5 @@
 use Rattle.std.proofs.Common.{◌≤◌, Err, length, arith, ap, sym, ◌∙◌}
-use Rattle.text_lines.specs.Pairs.{pairs_said}
-use Rattle.text_lines.proofs.LoopLaws.{bytes_bad, bytes_end, bytes_go_on, bytes_long}
+use Rattle.text_lines.{specs.Pairs.pairs_said, proofs.LoopLaws.bytes_bad, proofs.LoopLaws.bytes_end, proofs.LoopLaws.bytes_go_on, proofs.LoopLaws.bytes_long}
 use Rattle.text_lines.proofs.messages.fill_bytes.Goals as goal
 
 pub returns-then-not-branch-clause-value : goal.returns-then-not-branch-clause-value

@@ -1,6 +1,5 @@
 use Rattle.std.proofs.Common.{ap, arith, ◌∙◌}
-use Rattle.text_lines.specs.Numbers.{at_less, digits_said}
-use Rattle.text_lines.proofs.LimitLaws.{less_limited}
+use Rattle.text_lines.{specs.Numbers.at_less, specs.Numbers.digits_said, proofs.LimitLaws.less_limited}
 use Rattle.text_lines.proofs.numbers.decimal_of.Goals as goal
 
 pub returns : goal.returns

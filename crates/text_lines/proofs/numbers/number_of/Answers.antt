@@ -1,6 +1,5 @@
 use Rattle.std.proofs.Common.{ap, arith, ◌∙◌}
-use Rattle.text_lines.specs.Numbers.{at_most, number_said}
-use Rattle.text_lines.proofs.LimitLaws.{most_limited}
+use Rattle.text_lines.{specs.Numbers.at_most, specs.Numbers.number_said, proofs.LimitLaws.most_limited}
 use Rattle.text_lines.proofs.numbers.number_of.Goals as goal
 
 pub returns : goal.returns

@@ -1,5 +1,4 @@
-use Rattle.std.proofs.Common.{◌≡◌, ◌≤◌, ◌^◌, drop}
-use Rattle.std.specs.Option.{option_map}
+use Rattle.std.{proofs.Common.◌≡◌, proofs.Common.◌≤◌, proofs.Common.◌^◌, proofs.Common.drop, specs.Option.option_map}
 use Rattle.text_lines.specs.Numbers.{capped_64, digits_from}
 use Rattle.text_lines.proofs.numbers.value_of.Given as goal
 

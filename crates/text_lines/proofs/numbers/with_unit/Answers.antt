@@ -1,6 +1,5 @@
 use Rattle.std.proofs.Common.{ap, ◌∙◌}
-use Rattle.text_lines.specs.Numbers.{in_unit, limited_64, prefixed_said, without_last}
-use Rattle.text_lines.proofs.LimitLaws.{unit_limited}
+use Rattle.text_lines.{specs.Numbers.in_unit, specs.Numbers.limited_64, specs.Numbers.prefixed_said, specs.Numbers.without_last, proofs.LimitLaws.unit_limited}
 use Rattle.text_lines.proofs.numbers.with_unit.Goals as goal
 
 pub returns : goal.returns

@@ -1,7 +1,5 @@
-use Rattle.std.proofs.Common.{◌≡◌, ◌++◌, take, map}
-use Rattle.std.specs.List.{flat_map}
-use Rattle.text_lines.specs.Pairs.{pair_text}
-use Rattle.text_lines.specs.Words.{spaced}
+use Rattle.std.{proofs.Common.◌≡◌, proofs.Common.◌++◌, proofs.Common.take, proofs.Common.map, specs.List.flat_map}
+use Rattle.text_lines.specs.{Pairs.pair_text, Words.spaced}
 use Rattle.text_lines.proofs.pairs.write_pairs.Given as goal
 
 abbrev pub invariant-loop-byte : goal.invariant-loop-byte

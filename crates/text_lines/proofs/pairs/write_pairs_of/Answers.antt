@@ -1,6 +1,5 @@
 use Rattle.std.proofs.Common.{ap, sym, ◌∙◌}
-use Rattle.text_lines.specs.Pairs.{pairs_said}
-use Rattle.text_lines.proofs.PairLaws.{pair_fails, pairs_behind, pair_goes_on, said_all, said_nothing}
+use Rattle.text_lines.{specs.Pairs.pairs_said, proofs.PairLaws.pair_fails, proofs.PairLaws.pairs_behind, proofs.PairLaws.pair_goes_on, proofs.PairLaws.said_all, proofs.PairLaws.said_nothing}
 use Rattle.text_lines.proofs.pairs.write_pairs_of.Goals as goal
 
 pub returns-in_default : goal.returns-in_default

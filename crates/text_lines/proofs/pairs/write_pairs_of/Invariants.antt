@@ -1,6 +1,5 @@
 use Rattle.std.proofs.Common.{◌≡◌, length}
-use Rattle.text_lines.specs.Pairs.{pairs_said}
-use Rattle.text_lines.proofs.PairLaws.{pairs_behind}
+use Rattle.text_lines.{specs.Pairs.pairs_said, proofs.PairLaws.pairs_behind}
 use Rattle.text_lines.proofs.pairs.write_pairs_of.Given as goal
 
 abbrev pub invariant-loop-rest : goal.invariant-loop-rest

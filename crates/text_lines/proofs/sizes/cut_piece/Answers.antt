@@ -1,8 +1,6 @@
 use Rattle.std.proofs.Common.{suc, ◌≡◌, ◌<◌, ◌∷◌, [], length, drop, arith, ap, ◌∙◌, sym, add-one}
-use Rattle.std.proofs.lemmas.Bool.{eqb-true, eqb-false}
-use Rattle.std.proofs.lemmas.List.{drop-drop}
-use Rattle.text_lines.specs.Sizes.{comma_pieces}
-use Rattle.text_lines.proofs.SizeLaws.{piece_cut}
+use Rattle.std.proofs.lemmas.{Bool.eqb-true, Bool.eqb-false, List.drop-drop}
+use Rattle.text_lines.{specs.Sizes.comma_pieces, proofs.SizeLaws.piece_cut}
 use Rattle.text_lines.proofs.sizes.cut_piece.Goals as goal
 
 pub returns-then-is_empty-clause-pieces : goal.returns-then-is_empty-clause-pieces

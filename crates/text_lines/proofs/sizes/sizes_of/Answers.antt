@@ -1,6 +1,5 @@
 use Rattle.std.proofs.Common.{sym, ◌∙◌}
-use Rattle.text_lines.specs.Sizes.{sizes_said}
-use Rattle.text_lines.proofs.SizeLaws.{mask_fails, size_fails, size_goes_on, sizes_end}
+use Rattle.text_lines.{specs.Sizes.sizes_said, proofs.SizeLaws.mask_fails, proofs.SizeLaws.size_fails, proofs.SizeLaws.size_goes_on, proofs.SizeLaws.sizes_end}
 use Rattle.text_lines.proofs.sizes.sizes_of.Goals as goal
 
 pub returns-in_err-size : goal.returns-in_err-size

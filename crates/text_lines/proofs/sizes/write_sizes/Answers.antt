@@ -1,8 +1,8 @@
 use Rattle.std.proofs.Common.{◌≡◌, ◌==◌, ◌/◌, ◌%◌, ◌^◌, true, false, arith, ap, sym, ◌∙◌, ◌++◌}
 use Rattle.std.proofs.lemmas.Bool.{eq-eqb, ne_eqb}
-use Rattle.text_lines.specs.Sizes.{commas_text, size_behind, sizes_below, sizes_text}
 use Rattle.text_lines.proofs.SizeLaws.{no_size, no_sizes, none_first, none_of, size_more, size_there}
 use Rattle.text_lines.proofs.sizes.write_sizes.Goals.{then-mask-size-eq1+in_ok-write_one, else-mask-size-eq1}
+use Rattle.text_lines.specs.Sizes.{commas_text, size_behind, sizes_below, sizes_text}
 use Rattle.text_lines.proofs.sizes.write_sizes.Goals as goal
 
 pub loop-n-init : goal.loop-n-init

@@ -1,6 +1,5 @@
 use Rattle.std.proofs.Common.{◌≡◌, ◌++◌}
-use Rattle.text_lines.specs.Sizes.{commas_text, sizes_below}
-use Rattle.text_lines.proofs.SizeLaws.{none_of}
+use Rattle.text_lines.{specs.Sizes.commas_text, specs.Sizes.sizes_below, proofs.SizeLaws.none_of}
 use Rattle.text_lines.proofs.sizes.write_sizes.Given as goal
 
 abbrev pub invariant-loop-n : goal.invariant-loop-n

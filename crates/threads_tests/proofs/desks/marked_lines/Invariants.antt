@@ -1,5 +1,4 @@
-use Rattle.std.proofs.Common.{◌≤◌, ◌*◌, length, IsTrue}
-use Rattle.std.specs.List.{list_all}
+use Rattle.std.{proofs.Common.◌≤◌, proofs.Common.◌*◌, proofs.Common.length, proofs.Common.IsTrue, specs.List.list_all}
 use Rattle.script_runner.specs.script_codec.specs.Scripts.{is_sound_line}
 use Rattle.threads_tests.proofs.desks.marked_lines.Given as goal
 

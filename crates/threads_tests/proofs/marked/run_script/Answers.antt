@@ -1,6 +1,5 @@
 use Rattle.std.proofs.Common.{arith}
-use Rattle.threads_tests.proofs.DeskSteps.{desks_ready}
-use Rattle.threads_tests.specs.declared.keeper.Keeper.{Keeper}
+use Rattle.threads_tests.{proofs.DeskSteps.desks_ready, specs.declared.keeper.Keeper.Keeper}
 use Rattle.threads_tests.proofs.marked.run_script.Goals as goal
 
 pub run_phases-requires-clause-ready : goal.run_phases-requires-clause-ready

@@ -1,5 +1,4 @@
-use Rattle.threads_tests.proofs.DeskSteps.{desks_after, desks_ready}
-use Rattle.threads_tests.specs.declared.keeper.Keeper.{Keeper}
+use Rattle.threads_tests.{proofs.DeskSteps.desks_after, proofs.DeskSteps.desks_ready, specs.declared.keeper.Keeper.Keeper}
 use Rattle.threads_tests.proofs.marked.run_together.Goals as goal
 
 pub run_phase-requires-clause-ready : goal.run_phase-requires-clause-ready

@@ -1,6 +1,5 @@
 use Rattle.std.proofs.Common.{◌≡◌, ◌+◌, ◌∷◌, [], ◌++◌, rules}
-use Rattle.threads_tests.specs.Tally.{above_both}
-use Rattle.threads_tests.proofs.TallySteps.{added}
+use Rattle.threads_tests.{specs.Tally.above_both, proofs.TallySteps.added}
 use Rattle.threads_tests.proofs.runs.add.Goals as goal
 
 pub returns : goal.returns

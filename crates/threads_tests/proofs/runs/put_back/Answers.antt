@@ -1,8 +1,7 @@
 use Rattle.std.proofs.Common.{List, suc}
 use Rattle.journal_core.specs.declared.entries.Entry.{Entry}
 use Rattle.script_runner.specs.shared_device.specs.ruled_cells.specs.Seats.{turns_of}
-use Rattle.threads_tests.specs.Tally.{ledger_reads}
-use Rattle.threads_tests.proofs.TallySteps.{may_put_back, same_view, same_cell}
+use Rattle.threads_tests.{specs.Tally.ledger_reads, proofs.TallySteps.may_put_back, proofs.TallySteps.same_view, proofs.TallySteps.same_cell}
 use Rattle.threads_tests.proofs.runs.put_back.Goals as goal
 
 pub give-requires-clause-may : goal.give-requires-clause-may

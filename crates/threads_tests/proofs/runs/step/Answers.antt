@@ -1,9 +1,7 @@
 use Rattle.std.proofs.Common.{List, sym, subst}
 use Rattle.journal_core.specs.declared.entries.Entry.{Entry}
-use Rattle.threads_tests.specs.Tally.{IsIdle, MayHaveAdded, ledger_reads}
-use Rattle.script_runner.specs.shared_device.specs.ruled_cells.specs.Seats.{seat_number, seat_view, turns_of}
-use Rattle.script_runner.specs.shared_device.proofs.Turns.{given_again}
-use Rattle.threads_tests.proofs.TallySteps.{idle_again, same_cell}
+use Rattle.threads_tests.{specs.Tally.IsIdle, specs.Tally.MayHaveAdded, specs.Tally.ledger_reads, proofs.TallySteps.idle_again, proofs.TallySteps.same_cell}
+use Rattle.script_runner.specs.shared_device.{specs.ruled_cells.specs.Seats.seat_number, specs.ruled_cells.specs.Seats.seat_view, specs.ruled_cells.specs.Seats.turns_of, proofs.Turns.given_again}
 use Rattle.threads_tests.proofs.runs.step.Goals as goal
 
 pub returns-clause-idle : goal.returns-clause-idle

@@ -1,5 +1,4 @@
-use Rattle.std.proofs.Common.{◌-◌, ◌+◌, arith, rules}
-use Rattle.std.proofs.lemmas.Result.{err_from_is_err_and}
+use Rattle.std.proofs.{Common.◌-◌, Common.◌+◌, Common.arith, Common.rules, lemmas.Result.err_from_is_err_and}
 use Rattle.tunnel_fabric.proofs.FabricLists.{devices_go_on, devices_fail, devices_done}
 use Rattle.tunnel_fabric.proofs.devices.devices_at.Goals as goal
 

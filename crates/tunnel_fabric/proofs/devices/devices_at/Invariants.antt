@@ -1,6 +1,5 @@
 use Rattle.std.proofs.Common.{◌≡◌, ◌-◌, ◌≤◌, length}
-use Rattle.tunnel_fabric.specs.FabricReading.{devices_from}
-use Rattle.tunnel_fabric.proofs.FabricLists.{with_devices}
+use Rattle.tunnel_fabric.{specs.FabricReading.devices_from, proofs.FabricLists.with_devices}
 use Rattle.tunnel_fabric.proofs.devices.devices_at.Given as goal
 
 abbrev pub invariant-loop : goal.invariant-loop

@@ -1,5 +1,4 @@
-use Rattle.std.proofs.Common.{◌-◌, arith, rules, ◌∙◌}
-use Rattle.std.proofs.lemmas.Result.{err_from_is_err_and}
+use Rattle.std.proofs.{Common.◌-◌, Common.arith, Common.rules, Common.◌∙◌, lemmas.Result.err_from_is_err_and}
 use Rattle.tunnel_fabric.proofs.FabricLists.{no_fabric_kind, at_fabric_end, bad_fabric_line, one_fabric_line, too_many_fabric_lines}
 use Rattle.tunnel_fabric.proofs.line_bytes.next_at.Goals as goal
 

@@ -1,7 +1,5 @@
-use Rattle.std.proofs.Common.{rules, ◌≡◌, ℕ, List, [], subst}
-use Rattle.std.proofs.lemmas.Result.{err_from_is_err_and}
-use Rattle.dcd_base.specs.Streams.{Passes}
-use Rattle.dcd_base.proofs.Passing.{passes_both, passes_front}
+use Rattle.std.proofs.{Common.rules, Common.◌≡◌, Common.ℕ, Common.List, Common.[], Common.subst, lemmas.Result.err_from_is_err_and}
+use Rattle.dcd_base.{specs.Streams.Passes, proofs.Passing.passes_both, proofs.Passing.passes_front}
 use Rattle.report.specs.Texts.{text}
 use Rattle.tunnel_fabric.specs.Printing.{device_head}
 use Rattle.tunnel_fabric.proofs.printing.print_device.Goals as goal

@@ -1,9 +1,7 @@
 use Rattle.std.proofs.Common.{rules, ◌≡◌, ℕ, ◌<◌, List, [], length, get_or, sym, ap, ◌∙◌, subst}
 use Rattle.std.proofs.lemmas.Result.{err_from_is_err_and}
-use Rattle.dcd_base.specs.Streams.{Passes}
-use Rattle.dcd_base.proofs.Passing.{passes_both, risen_before}
-use Rattle.tunnel_fabric.specs.Printing.{device_lines}
-use Rattle.tunnel_fabric.proofs.Printed.{first_texts, texts_all, texts_front, texts_more}
+use Rattle.dcd_base.{specs.Streams.Passes, proofs.Passing.passes_both, proofs.Passing.risen_before}
+use Rattle.tunnel_fabric.{specs.Printing.device_lines, proofs.Printed.first_texts, proofs.Printed.texts_all, proofs.Printed.texts_front, proofs.Printed.texts_more}
 use Rattle.tunnel_fabric.proofs.printing.print_devices.Goals as goal
 
 pub loop-i-preserved : goal.loop-i-preserved

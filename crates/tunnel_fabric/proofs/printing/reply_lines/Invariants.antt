@@ -1,5 +1,4 @@
-use Rattle.std.proofs.Common.{◌≡◌, take}
-use Rattle.std.specs.Prelude.{flat_map}
+use Rattle.std.{proofs.Common.◌≡◌, proofs.Common.take, specs.Prelude.flat_map}
 use Rattle.tunnel_fabric.specs.Printing.{tunnel_line}
 use Rattle.tunnel_fabric.proofs.printing.reply_lines.Given as goal
 

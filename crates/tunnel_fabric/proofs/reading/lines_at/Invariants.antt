@@ -1,6 +1,5 @@
 use Rattle.std.proofs.Common.{◌≡◌, ◌≤◌, length}
-use Rattle.tunnel_fabric.specs.FabricLines.{fabric_lines_from}
-use Rattle.tunnel_fabric.proofs.FabricLists.{with_fabric_lines}
+use Rattle.tunnel_fabric.{specs.FabricLines.fabric_lines_from, proofs.FabricLists.with_fabric_lines}
 use Rattle.tunnel_fabric.proofs.reading.lines_at.Given as goal
 
 -- The lines that were read stand before those that are still to come.

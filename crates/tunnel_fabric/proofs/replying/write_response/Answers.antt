@@ -1,5 +1,4 @@
-use Rattle.std.proofs.Common.{rules, ◌≡◌, ◌++◌, length, ap, ◌∙◌, append_assoc}
-use Rattle.std.proofs.lemmas.Result.{on_ok_weaker}
+use Rattle.std.proofs.{Common.rules, Common.◌≡◌, Common.◌++◌, Common.length, Common.ap, Common.◌∙◌, Common.append_assoc, lemmas.Result.on_ok_weaker}
 use Rattle.dcd_base.specs.Layouts.{spelling}
 use Rattle.cci_codec.specs.Messages.{response_head_fields}
 use Rattle.tunnel_fabric.proofs.Printed.{response_spelled}

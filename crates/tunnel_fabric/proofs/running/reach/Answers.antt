@@ -1,10 +1,7 @@
 use Rattle.std.proofs.Common.{subst}
 use Rattle.dcd_base.specs.declared.steps.Actor.{Actor}
-use Rattle.journal_core.specs.declared.acts.Act.{Act}
-use Rattle.journal_core.specs.declared.acts.Reply.{Reply}
-use Rattle.tunnel_fabric.specs.Stepping.{StepsOne}
-use Rattle.tunnel_fabric.specs.Tunnels.{inner_of}
-use Rattle.tunnel_fabric.proofs.Fronts.{reached_by}
+use Rattle.journal_core.specs.declared.acts.{Act.Act, Reply.Reply}
+use Rattle.tunnel_fabric.{specs.Stepping.StepsOne, specs.Tunnels.inner_of, proofs.Fronts.reached_by}
 use Rattle.tunnel_fabric.proofs.running.reach.Goals as goal
 
 pub returns : goal.returns

@@ -1,8 +1,6 @@
-use Rattle.std.proofs.Common.{rules, ◌≡◌, length, drop, sym, subst, ap, ◌∙◌}
-use Rattle.std.specs.List.{All}
-use Rattle.tunnel_fabric.specs.Sending.{IsFabricRun, IsShortReply, RanFabric}
+use Rattle.std.{proofs.Common.rules, proofs.Common.◌≡◌, proofs.Common.length, proofs.Common.drop, proofs.Common.sym, proofs.Common.subst, proofs.Common.ap, proofs.Common.◌∙◌, specs.List.All}
+use Rattle.tunnel_fabric.{proofs.Fronts.run_is, proofs.Fronts.short_all, proofs.Fronts.taken_front, specs.Sending.IsFabricRun, specs.Sending.IsShortReply, specs.Sending.RanFabric}
 use Rattle.tunnel_fabric.specs.Stepping.{RanFront, ran}
-use Rattle.tunnel_fabric.proofs.Fronts.{run_is, short_all, taken_front}
 use Rattle.tunnel_fabric.proofs.running.run_lines.Goals as goal
 
 pub returns-clause-ran : goal.returns-clause-ran

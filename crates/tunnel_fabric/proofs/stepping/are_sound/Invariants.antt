@@ -1,5 +1,4 @@
-use Rattle.std.specs.Prelude.{take}
-use Rattle.std.specs.List.{AllByRecursion}
+use Rattle.std.specs.{Prelude.take, List.AllByRecursion}
 use Rattle.tunnel_fabric.specs.Stepping.{IsSoundDevice}
 use Rattle.tunnel_fabric.proofs.stepping.are_sound.Given as goal
 

@@ -1,5 +1,4 @@
-use Rattle.workers.proofs.LonePass.{lone_begun, lone_ready, lone_served}
-use Rattle.workers.specs.Worklists.{phase_of}
+use Rattle.workers.{proofs.LonePass.lone_begun, proofs.LonePass.lone_ready, proofs.LonePass.lone_served, specs.Worklists.phase_of}
 use Rattle.workers.proofs.phase.serve_alone.Goals as goal
 
 pub serve_lines-requires-clause-ready : goal.serve_lines-requires-clause-ready

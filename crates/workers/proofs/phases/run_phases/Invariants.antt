@@ -1,8 +1,6 @@
-use Rattle.std.proofs.Common.{◌≡◌, ◌+◌, ◌*◌, length, IsTrue}
-use Rattle.std.specs.List.{list_all}
+use Rattle.std.{proofs.Common.◌≡◌, proofs.Common.◌+◌, proofs.Common.◌*◌, proofs.Common.length, proofs.Common.IsTrue, specs.List.list_all}
 use Rattle.script_codec.specs.Scripts.{is_sound_line}
-use Rattle.workers.specs.Serving.{EachPair}
-use Rattle.workers.proofs.Phasing.{HasServedTo}
+use Rattle.workers.{specs.Serving.EachPair, proofs.Phasing.HasServedTo}
 use Rattle.workers.proofs.phases.run_phases.Given as goal
 
 abbrev pub invariant-loop-rest : goal.invariant-loop-rest

@@ -1,7 +1,5 @@
 use Rattle.std.proofs.Common.{[], ◌∷◌, ◌+◌, subst, sym}
-use Rattle.workers.specs.Phases.{Grown, tasks}
-use Rattle.workers.specs.Worklists.{IsNextOf}
-use Rattle.workers.proofs.Standing.{begins, goes_on, next_there}
+use Rattle.workers.{specs.Phases.Grown, specs.Phases.tasks, specs.Worklists.IsNextOf, proofs.Standing.begins, proofs.Standing.goes_on, proofs.Standing.next_there}
 use Rattle.workers.proofs.serving.serve.Goals as goal
 
 pub loop-place-init : goal.loop-place-init

@@ -1,21 +1,12 @@
 use Rattle.std.proofs.Common.{◌≡◌, ◌<◌, List, [], ◌∷◌, ◌++◌, sym, ap, subst, ◌∙◌}
-use Rattle.std.specs.Prelude.{IfOk}
-use Rattle.std.specs.declared.result.Result.{Result}
-use Rattle.dcd_base.specs.declared.failures.AccessFault.{AccessFault}
-use Rattle.dcd_base.specs.declared.media.Place.{Place}
-use Rattle.dcd_base.specs.declared.steps.Actor.TheVariants.{Host}
-use Rattle.dcd_base.specs.declared.steps.Stamp.{Stamp}
-use Rattle.journal_core.specs.declared.entries.Entry.{Entry}
-use Rattle.journal_core.specs.Accesses.{access_entry}
+use Rattle.std.specs.{Prelude.IfOk, declared.result.Result.Result}
+use Rattle.dcd_base.specs.declared.{failures.AccessFault.AccessFault, media.Place.Place, steps.Actor.TheVariants.Host, steps.Stamp.Stamp}
+use Rattle.journal_core.specs.{declared.entries.Entry.Entry, Accesses.access_entry}
 use Rattle.media_map.specs.Places.{locate}
-use Rattle.region_config.specs.Configurations.{Configuration}
-use Rattle.region_config.specs.Granules.{granule_total}
-use Rattle.shard_laws.specs.Accessing.{AddsAccess, IsAccess, StoresIn, said_at, stripe_reply}
-use Rattle.shard_laws.specs.Belonging.{asked_at, shard_at}
-use Rattle.shard_laws.specs.Clocks.{next_stamp}
+use Rattle.region_config.specs.{Configurations.Configuration, Granules.granule_total}
+use Rattle.shard_laws.specs.{Accessing.AddsAccess, Accessing.IsAccess, Accessing.StoresIn, Accessing.said_at, Accessing.stripe_reply, Belonging.asked_at, Belonging.shard_at, Clocks.next_stamp}
 use Rattle.shard_laws.specs.Stripes.{Stripe}
-use Rattle.block_shard.proofs.Entered.{adds_access, entered_is_access}
-use Rattle.block_shard.proofs.Places.{located_inside, place_inside}
+use Rattle.block_shard.proofs.{Entered.adds_access, Entered.entered_is_access, Places.located_inside, Places.place_inside}
 use Rattle.block_shard.proofs.shard.Shard.access.Goals as goal
 
 pub held_place-place-requires-clause-inside : goal.held_place-place-requires-clause-inside

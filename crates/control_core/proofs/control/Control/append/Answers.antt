@@ -1,11 +1,7 @@
 use Rattle.std.proofs.Common.{List, sym, subst}
-use Rattle.journal_core.specs.declared.entries.Entry.{Entry}
-use Rattle.journal_core.specs.declared.outcome.Effect.{Effect}
-use Rattle.control_core.specs.Deciding.{Holds, IsDecidedBy}
-use Rattle.control_core.specs.Pasts.{EntersStep, IsOfStep}
-use Rattle.control_core.specs.Steps.{Controlled, MayStep}
-use Rattle.control_core.specs.declared.decided.Decided.{Decided}
-use Rattle.control_core.proofs.NextEntry.{holds_decided, is_of_step}
+use Rattle.journal_core.specs.declared.{entries.Entry.Entry, outcome.Effect.Effect}
+use Rattle.control_core.{proofs.NextEntry.holds_decided, proofs.NextEntry.is_of_step, specs.Deciding.Holds, specs.Deciding.IsDecidedBy, specs.Pasts.EntersStep, specs.Pasts.IsOfStep}
+use Rattle.control_core.specs.{Steps.Controlled, Steps.MayStep, declared.decided.Decided.Decided}
 use Rattle.control_core.proofs.control.Control.append.Goals as goal
 
 pub enter-requires-clause-step : goal.enter-requires-clause-step

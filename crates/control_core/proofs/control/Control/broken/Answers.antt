@@ -1,7 +1,6 @@
 use Rattle.std.proofs.Common.{◌≡◌, IfOk, subst}
 use Rattle.device_commands.specs.device_rules.specs.Answers.{broken}
-use Rattle.control_core.specs.Steps.{Controlled}
-use Rattle.control_core.proofs.Entering.{past_held, of_every}
+use Rattle.control_core.{specs.Steps.Controlled, proofs.Entering.past_held, proofs.Entering.of_every}
 use Rattle.control_core.proofs.control.Control.broken.Goals as goal
 
 pub returns : goal.returns

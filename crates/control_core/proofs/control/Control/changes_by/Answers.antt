@@ -1,7 +1,6 @@
 use Rattle.std.proofs.Common.{◌≡◌, sym, subst}
 use Rattle.device_commands.specs.device_rules.specs.Answers.{answer}
-use Rattle.control_core.specs.Steps.{Controlled, MayStep}
-use Rattle.control_core.proofs.NextEntry.{is_of_step}
+use Rattle.control_core.{specs.Steps.Controlled, specs.Steps.MayStep, proofs.NextEntry.is_of_step}
 use Rattle.control_core.proofs.control.Control.changes_by.Goals as goal
 
 pub changes_by-requires : goal.changes_by-requires

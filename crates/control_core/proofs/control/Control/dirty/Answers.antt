@@ -1,8 +1,7 @@
 use Rattle.std.proofs.Common.{◌≡◌, subst}
 use Rattle.journal_core.specs.Entries.{effects}
 use Rattle.device_commands.specs.device_rules.specs.Counts.{dirty_count}
-use Rattle.control_core.specs.Steps.{Controlled}
-use Rattle.control_core.proofs.Entering.{past_held}
+use Rattle.control_core.{specs.Steps.Controlled, proofs.Entering.past_held}
 use Rattle.control_core.proofs.control.Control.dirty.Goals as goal
 
 pub returns : goal.returns

@@ -1,9 +1,7 @@
 use Rattle.std.proofs.Common.{◌≡◌, subst}
-use Rattle.journal_core.specs.Entries.{effects}
+use Rattle.journal_core.specs.{Entries.effects, declared.outcome.HeldKind.HeldKind}
 use Rattle.device_commands.specs.device_rules.specs.Hosts.{held_of}
-use Rattle.journal_core.specs.declared.outcome.HeldKind.{HeldKind}
-use Rattle.control_core.specs.Steps.{Controlled}
-use Rattle.control_core.proofs.Entering.{past_held}
+use Rattle.control_core.{specs.Steps.Controlled, proofs.Entering.past_held}
 use Rattle.control_core.proofs.control.Control.held_responses.Goals as goal
 
 pub returns : goal.returns

@@ -1,7 +1,5 @@
 use Rattle.std.proofs.Common.{subst}
-use Rattle.control_core.specs.Pasts.{IsPast}
-use Rattle.control_core.specs.Steps.{Controlled}
-use Rattle.control_core.proofs.Entering.{past_held}
+use Rattle.control_core.{specs.Pasts.IsPast, specs.Steps.Controlled, proofs.Entering.past_held}
 use Rattle.control_core.proofs.control.Control.live.Goals as goal
 
 pub returns-clause-past : goal.returns-clause-past

@@ -2,8 +2,7 @@ use Rattle.std.proofs.Common.{◌≡◌, subst}
 use Rattle.journal_core.specs.Entries.{effects}
 use Rattle.event_log.specs.Logs.{places_in, state_of}
 use Rattle.device_commands.specs.device_rules.specs.Logs.{log_of}
-use Rattle.control_core.specs.Steps.{Controlled}
-use Rattle.control_core.proofs.Entering.{past_held}
+use Rattle.control_core.{specs.Steps.Controlled, proofs.Entering.past_held}
 use Rattle.control_core.proofs.control.Control.log.Goals as goal
 
 pub returns : goal.returns

@@ -1,11 +1,8 @@
-use Rattle.std.proofs.Common.{◌≡◌, ◌<◌, List, length, Some, sym, subst}
-use Rattle.std.specs.Prelude.{slice_get}
+use Rattle.std.{proofs.Common.◌≡◌, proofs.Common.◌<◌, proofs.Common.List, proofs.Common.length, proofs.Common.Some, proofs.Common.sym, proofs.Common.subst, specs.Prelude.slice_get}
 use Rattle.cci_codec.specs.dcd_base.specs.declared.capacity.Extent.{Extent}
 use Rattle.journal_core.specs.Entries.{effects}
 use Rattle.device_commands.specs.device_rules.specs.Hosts.{offers_of}
-use Rattle.control_core.specs.Steps.{Controlled}
-use Rattle.control_core.proofs.Entering.{past_held}
-use Rattle.control_core.proofs.Reading.{offers_told}
+use Rattle.control_core.{specs.Steps.Controlled, proofs.Entering.past_held, proofs.Reading.offers_told}
 use Rattle.control_core.proofs.control.Control.offer.Goals as goal
 
 pub offer-requires-clause-index : goal.offer-requires-clause-index

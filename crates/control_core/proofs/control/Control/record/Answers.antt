@@ -1,12 +1,9 @@
-use Rattle.std.proofs.Common.{◌≡◌, ◌<◌, List, length, Some, sym, subst}
-use Rattle.std.specs.Prelude.{slice_get}
+use Rattle.std.{proofs.Common.◌≡◌, proofs.Common.◌<◌, proofs.Common.List, proofs.Common.length, proofs.Common.Some, proofs.Common.sym, proofs.Common.subst, specs.Prelude.slice_get}
 use Rattle.event_records.specs.declared.events.Event.{Event}
 use Rattle.journal_core.specs.Entries.{effects}
 use Rattle.device_commands.specs.device_rules.specs.Counts.{records_of}
 use Rattle.manager_commands.specs.device_state.specs.Updates.{IsOfLog}
-use Rattle.control_core.specs.Steps.{Controlled}
-use Rattle.control_core.proofs.Entering.{past_held}
-use Rattle.control_core.proofs.Reading.{records_told}
+use Rattle.control_core.{specs.Steps.Controlled, proofs.Entering.past_held, proofs.Reading.records_told}
 use Rattle.control_core.proofs.control.Control.record.Goals as goal
 
 pub record-requires-clause-index : goal.record-requires-clause-index

@@ -1,10 +1,7 @@
-use Rattle.std.proofs.Common.{◌≡◌, subst}
-use Rattle.std.specs.Prelude.{map}
+use Rattle.std.{proofs.Common.◌≡◌, proofs.Common.subst, specs.Prelude.map}
 use Rattle.journal_core.specs.Entries.{effects}
-use Rattle.device_commands.specs.device_rules.specs.Tags.{all_granules, status}
-use Rattle.device_commands.specs.device_rules.specs.GranuleCells.{status_of}
-use Rattle.control_core.specs.Steps.{Controlled}
-use Rattle.control_core.proofs.Entering.{past_held}
+use Rattle.device_commands.specs.device_rules.specs.{Tags.all_granules, Tags.status, GranuleCells.status_of}
+use Rattle.control_core.{specs.Steps.Controlled, proofs.Entering.past_held}
 use Rattle.control_core.proofs.control.Control.states.Goals as goal
 
 pub returns : goal.returns

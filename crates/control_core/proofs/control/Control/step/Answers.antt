@@ -1,7 +1,6 @@
 use Rattle.std.proofs.Common.{◌∙◌, List, subst, sym}
 use Rattle.journal_core.specs.declared.outcome.Effect.{Effect}
-use Rattle.control_core.specs.Deciding.{IsDecidedBy}
-use Rattle.control_core.proofs.NextEntry.{none_in}
+use Rattle.control_core.{specs.Deciding.IsDecidedBy, proofs.NextEntry.none_in}
 use Rattle.control_core.proofs.control.Control.step.Goals as goal
 
 pub take_reply-requires-clause-decided : goal.take_reply-requires-clause-decided

@@ -1,11 +1,7 @@
 use Rattle.std.proofs.Common.{◌≡◌, List, ap, sym, subst, ◌∙◌}
-use Rattle.journal_core.specs.Entries.{next_stamp}
-use Rattle.journal_core.specs.declared.entries.Entry.{Entry}
+use Rattle.journal_core.specs.{Entries.next_stamp, declared.entries.Entry.Entry}
 use Rattle.device_commands.specs.device_rules.specs.Legal.{Meets}
-use Rattle.control_core.specs.Deciding.{Holds}
-use Rattle.control_core.specs.Steps.{Controlled}
-use Rattle.control_core.proofs.Entering.{holds_next, past_held}
-use Rattle.control_core.proofs.NextEntry.{is_next_meets}
+use Rattle.control_core.{specs.Deciding.Holds, specs.Steps.Controlled, proofs.Entering.holds_next, proofs.Entering.past_held, proofs.NextEntry.is_next_meets}
 use Rattle.control_core.proofs.control.Control.take.Goals as goal
 
 pub enter-requires-clause-step : goal.enter-requires-clause-step

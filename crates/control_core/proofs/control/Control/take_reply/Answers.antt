@@ -1,9 +1,7 @@
 use Rattle.std.proofs.Common.{List, sym, subst}
 use Rattle.journal_core.specs.declared.entries.Entry.{Entry}
-use Rattle.control_core.specs.Deciding.{Holds, IsDecidedBy}
-use Rattle.control_core.specs.Decisions.{only_replied}
+use Rattle.control_core.{proofs.NextEntry.enters_nothing, proofs.NextEntry.holds_decided, specs.Deciding.Holds, specs.Deciding.IsDecidedBy, specs.Decisions.only_replied}
 use Rattle.control_core.specs.Steps.{Controlled, MayStep}
-use Rattle.control_core.proofs.NextEntry.{enters_nothing, holds_decided}
 use Rattle.control_core.proofs.control.Control.take_reply.Goals as goal
 
 pub invariant_of-self-2 : goal.invariant_of-self-2

@@ -1,15 +1,10 @@
-use Rattle.std.proofs.Common.{◌≡◌, ◌<◌, ◌≤◌, IfOk, ap, subst, sym, ◌∙◌}
-use Rattle.std.specs.Result.{result_err}
+use Rattle.std.{proofs.Common.◌≡◌, proofs.Common.◌<◌, proofs.Common.◌≤◌, proofs.Common.IfOk, proofs.Common.ap, proofs.Common.subst, proofs.Common.sym, proofs.Common.◌∙◌, specs.Result.result_err}
 use Rattle.cci_codec.specs.dcd_base.specs.declared.steps.LogId.{LogId}
 use Rattle.extent_list.specs.HostLists.{extent_total}
-use Rattle.manager_commands.proofs.FewExtents.{few_extents}
-use Rattle.device_commands.specs.device_rules.specs.Answers.{host_result_in}
-use Rattle.device_commands.specs.device_rules.specs.Views.{view_of}
+use Rattle.manager_commands.{proofs.FewExtents.few_extents, specs.device_state.specs.declared.parts.HostPart.HostPart}
+use Rattle.device_commands.specs.device_rules.specs.{Answers.host_result_in, Views.view_of}
 use Rattle.event_log.specs.Logs.{IsLogOf}
-use Rattle.manager_commands.specs.device_state.specs.declared.parts.HostPart.{HostPart}
-use Rattle.control_core.specs.Pasts.{ByEveryPast, IsPast, LiveControlled}
-use Rattle.control_core.proofs.DraftedRows.{host_row}
-use Rattle.control_core.proofs.Entering.{by_every}
+use Rattle.control_core.{specs.Pasts.ByEveryPast, specs.Pasts.IsPast, specs.Pasts.LiveControlled, proofs.DraftedRows.host_row, proofs.Entering.by_every}
 use Rattle.control_core.proofs.live.LiveControl.broken_by_host.Goals as goal
 
 pub host_draft-requires-clause-few : goal.host_draft-requires-clause-few

@@ -1,12 +1,8 @@
-use Rattle.std.proofs.Common.{◌≡◌, IfOk, rules, subst}
-use Rattle.std.specs.Result.{result_err}
-use Rattle.std.specs.declared.result.Result.TheVariants.{Ok}
+use Rattle.std.{proofs.Common.◌≡◌, proofs.Common.IfOk, proofs.Common.rules, proofs.Common.subst, specs.Result.result_err, specs.declared.result.Result.TheVariants.Ok}
 use Rattle.fm_payloads.specs.ManagerPayloads.{manager_request}
 use Rattle.manager_commands.specs.ManagerMessages.{DraftsFor, outcome_after}
 use Rattle.device_commands.specs.device_rules.specs.Answers.{manager_result}
-use Rattle.control_core.specs.Pasts.{ByEveryPast, IsPast, LiveControlled}
-use Rattle.control_core.proofs.DraftedRows.{manager_row}
-use Rattle.control_core.proofs.Entering.{by_every}
+use Rattle.control_core.{specs.Pasts.ByEveryPast, specs.Pasts.IsPast, specs.Pasts.LiveControlled, proofs.DraftedRows.manager_row, proofs.Entering.by_every}
 use Rattle.control_core.proofs.live.LiveControl.broken_by_manager.Goals as goal
 
 pub returns-in-Ok : goal.returns-in-Ok

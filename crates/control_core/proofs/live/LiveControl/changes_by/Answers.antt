@@ -1,10 +1,7 @@
-use Rattle.std.proofs.Common.{sym, subst, List}
-use Rattle.std.specs.Prelude.{All}
+use Rattle.std.{proofs.Common.sym, proofs.Common.subst, proofs.Common.List, specs.Prelude.All}
 use Rattle.journal_core.specs.declared.outcome.Effect.{Effect}
-use Rattle.control_core.specs.Pasts.{LiveControlled}
-use Rattle.control_core.specs.PutChanges.{AreOfOneHost}
+use Rattle.control_core.{specs.Pasts.LiveControlled, specs.PutChanges.AreOfOneHost, proofs.Entering.step_of_device, proofs.Entering.step_of_one}
 use Rattle.manager_commands.specs.device_state.specs.Updates.{IsOfDevice}
-use Rattle.control_core.proofs.Entering.{step_of_device, step_of_one}
 use Rattle.control_core.proofs.live.LiveControl.changes_by.Goals as goal
 
 pub changes_of-requires-clause-of_device : goal.changes_of-requires-clause-of_device

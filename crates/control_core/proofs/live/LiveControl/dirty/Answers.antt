@@ -1,8 +1,7 @@
 use Rattle.std.proofs.Common.{◌≡◌, subst, ◌∙◌}
 use Rattle.journal_core.specs.Entries.{effects}
 use Rattle.device_commands.specs.device_rules.specs.Counts.{dirty_count}
-use Rattle.control_core.specs.Pasts.{ByEveryPast, LiveControlled}
-use Rattle.control_core.proofs.Reading.{dirty_told}
+use Rattle.control_core.{specs.Pasts.ByEveryPast, specs.Pasts.LiveControlled, proofs.Reading.dirty_told}
 use Rattle.control_core.proofs.live.LiveControl.dirty.Goals as goal
 
 pub returns : goal.returns

@@ -1,12 +1,9 @@
-use Rattle.std.proofs.Common.{sym, subst}
-use Rattle.std.specs.Prelude.{All}
+use Rattle.std.{proofs.Common.sym, proofs.Common.subst, specs.Prelude.All}
 use Rattle.journal_core.specs.Entries.{effects}
 use Rattle.device_commands.specs.device_rules.specs.Hosts.{block_of}
-use Rattle.manager_commands.proofs.Present.{own_blocks}
-use Rattle.manager_commands.specs.device_state.specs.EnteredLists.{Fits, lists_of}
-use Rattle.manager_commands.specs.device_state.specs.Updates.{IsOfDevice}
-use Rattle.control_core.specs.Pasts.{EntersStep, IsOfStep, LiveControlled}
+use Rattle.manager_commands.{proofs.Present.own_blocks, specs.device_state.specs.EnteredLists.Fits, specs.device_state.specs.EnteredLists.lists_of, specs.device_state.specs.Updates.IsOfDevice}
 use Rattle.control_core.proofs.Entering.{past_entered, reached_entered, step_fits, step_of_device}
+use Rattle.control_core.specs.Pasts.{EntersStep, IsOfStep, LiveControlled}
 use Rattle.control_core.proofs.live.LiveControl.enter.Goals as goal
 
 pub enter-requires-clause-present : goal.enter-requires-clause-present

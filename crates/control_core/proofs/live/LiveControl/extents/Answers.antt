@@ -1,10 +1,8 @@
 use Rattle.std.proofs.Common.{◌≡◌, ◌<◌, length, ap, sym, subst, ◌∙◌, arith}
 use Rattle.journal_core.specs.Entries.{effects}
 use Rattle.device_commands.specs.device_rules.specs.Counts.{extent_count}
-use Rattle.manager_commands.specs.device_state.specs.StateAfter.{part_of}
-use Rattle.control_core.specs.Pasts.{ByEveryPast, LiveControlled}
-use Rattle.manager_commands.specs.device_state.specs.declared.parts.HostPart.{HostPart}
-use Rattle.control_core.proofs.Reading.{accepted_told, extents_told, held_in_kept}
+use Rattle.manager_commands.specs.device_state.specs.{StateAfter.part_of, declared.parts.HostPart.HostPart}
+use Rattle.control_core.{specs.Pasts.ByEveryPast, specs.Pasts.LiveControlled, proofs.Reading.accepted_told, proofs.Reading.extents_told, proofs.Reading.held_in_kept}
 use Rattle.control_core.proofs.live.LiveControl.extents.Goals as goal
 
 pub overflow_cast-result : goal.overflow_cast-result

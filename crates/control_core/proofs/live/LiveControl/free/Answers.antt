@@ -1,8 +1,7 @@
 use Rattle.std.proofs.Common.{◌≡◌, subst, ◌∙◌}
 use Rattle.journal_core.specs.Entries.{effects}
 use Rattle.device_commands.specs.device_rules.specs.Counts.{free_count}
-use Rattle.control_core.specs.Pasts.{ByEveryPast, LiveControlled}
-use Rattle.control_core.proofs.Reading.{free_told}
+use Rattle.control_core.{specs.Pasts.ByEveryPast, specs.Pasts.LiveControlled, proofs.Reading.free_told}
 use Rattle.control_core.proofs.live.LiveControl.free.Goals as goal
 
 pub returns : goal.returns

@@ -3,8 +3,7 @@ use Rattle.selection.specs.granule_map.specs.Blocks.{free_block_count}
 use Rattle.journal_core.specs.Entries.{effects}
 use Rattle.manager_commands.proofs.Reached.{regions_kept, total_kept}
 use Rattle.device_commands.specs.device_rules.specs.Adding.{area_of, is_free_now, present, region_free_blocks}
-use Rattle.control_core.specs.Pasts.{ByEveryPast, LiveControlled}
-use Rattle.control_core.proofs.Reading.{free_blocks_told}
+use Rattle.control_core.{specs.Pasts.ByEveryPast, specs.Pasts.LiveControlled, proofs.Reading.free_blocks_told}
 use Rattle.control_core.proofs.live.LiveControl.free_blocks.Goals as goal
 
 pub granules_of-area-requires : goal.granules_of-area-requires

@@ -1,13 +1,10 @@
-use Rattle.std.proofs.Common.{◌≡◌, ◌<◌, List, ap, sym, subst, ◌∙◌}
-use Rattle.std.specs.Prelude.{sum_by}
+use Rattle.std.{proofs.Common.◌≡◌, proofs.Common.◌<◌, proofs.Common.List, proofs.Common.ap, proofs.Common.sym, proofs.Common.subst, proofs.Common.◌∙◌, specs.Prelude.sum_by}
 use Rattle.cci_codec.specs.dcd_base.specs.declared.capacity.Extent.{Extent}
 use Rattle.journal_core.specs.Entries.{effects}
 use Rattle.extent_list.specs.media_map.specs.Places.{run_of}
 use Rattle.device_commands.specs.device_rules.specs.Counts.{granules_held}
-use Rattle.control_core.specs.HeldExtents.{AreHeld}
-use Rattle.control_core.specs.Pasts.{ByEveryPast, LiveControlled}
+use Rattle.control_core.{specs.HeldExtents.AreHeld, specs.Pasts.ByEveryPast, specs.Pasts.LiveControlled, proofs.Reading.accepted_told, proofs.Reading.granules_told, proofs.Reading.held_in_kept}
 use Rattle.manager_commands.specs.device_state.specs.declared.parts.HostPart.{HostPart}
-use Rattle.control_core.proofs.Reading.{accepted_told, granules_told, held_in_kept}
 use Rattle.control_core.proofs.live.LiveControl.granules_held.Goals as goal
 
 pub granules_in-requires-clause-held : goal.granules_in-requires-clause-held

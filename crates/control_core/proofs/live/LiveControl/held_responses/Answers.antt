@@ -1,10 +1,8 @@
 use Rattle.std.proofs.Common.{◌≡◌, ◌<◌, ap, sym, subst, ◌∙◌}
-use Rattle.journal_core.specs.Entries.{effects}
-use Rattle.journal_core.specs.declared.outcome.HeldKind.{HeldKind}
+use Rattle.journal_core.specs.{Entries.effects, declared.outcome.HeldKind.HeldKind}
 use Rattle.device_commands.specs.device_rules.specs.Hosts.{held_of}
-use Rattle.control_core.specs.Pasts.{ByEveryPast, LiveControlled}
+use Rattle.control_core.{specs.Pasts.ByEveryPast, specs.Pasts.LiveControlled, proofs.Reading.responses_told}
 use Rattle.manager_commands.specs.device_state.specs.declared.parts.HostPart.{HostPart}
-use Rattle.control_core.proofs.Reading.{responses_told}
 use Rattle.control_core.proofs.live.LiveControl.held_responses.Goals as goal
 
 pub returns : goal.returns

@@ -2,9 +2,8 @@ use Rattle.std.proofs.Common.{◌≡◌, sym, subst, ◌∙◌}
 use Rattle.event_log.specs.Logs.{places_in, state_of}
 use Rattle.device_commands.specs.device_rules.specs.Logs.{log_of}
 use Rattle.journal_core.specs.Entries.{effects}
-use Rattle.control_core.specs.Pasts.{ByEveryPast, LiveControlled}
+use Rattle.control_core.{specs.Pasts.ByEveryPast, specs.Pasts.LiveControlled, proofs.Reading.log_is}
 use Rattle.manager_commands.specs.device_state.specs.Updates.{IsOfLog}
-use Rattle.control_core.proofs.Reading.{log_is}
 use Rattle.control_core.proofs.live.LiveControl.log.Goals as goal
 
 pub returns : goal.returns

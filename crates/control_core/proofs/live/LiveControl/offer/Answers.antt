@@ -3,10 +3,8 @@ use Rattle.std.specs.Prelude.{slice_get}
 use Rattle.cci_codec.specs.dcd_base.specs.declared.capacity.Extent.{Extent}
 use Rattle.journal_core.specs.Entries.{effects}
 use Rattle.device_commands.specs.device_rules.specs.Hosts.{offers_of}
-use Rattle.control_core.specs.Pasts.{ByEveryPast, LiveControlled}
-use Rattle.manager_commands.specs.device_state.specs.StateAfter.{part_of}
-use Rattle.manager_commands.specs.device_state.specs.declared.parts.HostPart.{HostPart}
-use Rattle.control_core.proofs.Reading.{offers_told}
+use Rattle.control_core.{specs.Pasts.ByEveryPast, specs.Pasts.LiveControlled, proofs.Reading.offers_told}
+use Rattle.manager_commands.specs.device_state.specs.{StateAfter.part_of, declared.parts.HostPart.HostPart}
 use Rattle.control_core.proofs.live.LiveControl.offer.Goals as goal
 
 pub offer_at-requires : goal.offer_at-requires

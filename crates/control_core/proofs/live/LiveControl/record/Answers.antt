@@ -4,9 +4,8 @@ use Rattle.event_log.specs.LogStates.{LogState}
 use Rattle.event_records.specs.declared.events.Event.{Event}
 use Rattle.journal_core.specs.Entries.{effects}
 use Rattle.device_commands.specs.device_rules.specs.Counts.{records_of}
-use Rattle.control_core.specs.Pasts.{ByEveryPast, LiveControlled}
+use Rattle.control_core.{specs.Pasts.ByEveryPast, specs.Pasts.LiveControlled, proofs.Reading.records_told}
 use Rattle.manager_commands.specs.device_state.specs.Updates.{IsOfLog, log_in}
-use Rattle.control_core.proofs.Reading.{records_told}
 use Rattle.control_core.proofs.live.LiveControl.record.Goals as goal
 
 pub at-requires : goal.at-requires

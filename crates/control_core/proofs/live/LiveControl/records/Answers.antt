@@ -2,9 +2,8 @@ use Rattle.std.proofs.Common.{◌≡◌, length, ap, sym, subst, ◌∙◌}
 use Rattle.event_log.specs.LogStates.{LogState}
 use Rattle.journal_core.specs.Entries.{effects}
 use Rattle.device_commands.specs.device_rules.specs.Counts.{records_of}
-use Rattle.control_core.specs.Pasts.{ByEveryPast, LiveControlled}
+use Rattle.control_core.{specs.Pasts.ByEveryPast, specs.Pasts.LiveControlled, proofs.Reading.records_told}
 use Rattle.manager_commands.specs.device_state.specs.Updates.{IsOfLog}
-use Rattle.control_core.proofs.Reading.{records_told}
 use Rattle.control_core.proofs.live.LiveControl.records.Goals as goal
 
 pub returns : goal.returns

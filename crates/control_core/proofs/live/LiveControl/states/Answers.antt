@@ -1,10 +1,7 @@
-use Rattle.std.proofs.Common.{◌≡◌, ap, subst, ◌∙◌}
-use Rattle.std.specs.Prelude.{map}
-use Rattle.device_commands.specs.device_rules.specs.Tags.{all_granules, status}
-use Rattle.device_commands.specs.device_rules.specs.GranuleCells.{status_of}
+use Rattle.std.{proofs.Common.◌≡◌, proofs.Common.ap, proofs.Common.subst, proofs.Common.◌∙◌, specs.Prelude.map}
+use Rattle.device_commands.specs.device_rules.specs.{Tags.all_granules, Tags.status, GranuleCells.status_of}
 use Rattle.journal_core.specs.Entries.{effects}
-use Rattle.control_core.specs.Pasts.{ByEveryPast, LiveControlled}
-use Rattle.control_core.proofs.Reading.{states_told}
+use Rattle.control_core.{specs.Pasts.ByEveryPast, specs.Pasts.LiveControlled, proofs.Reading.states_told}
 use Rattle.control_core.proofs.live.LiveControl.states.Goals as goal
 
 pub returns : goal.returns

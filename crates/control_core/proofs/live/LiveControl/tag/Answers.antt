@@ -1,10 +1,8 @@
 use Rattle.std.proofs.Common.{◌≡◌, ◌<◌, length, map, Some, ap, sym, subst, ◌∙◌}
-use Rattle.std.specs.Prelude.{slice_get}
-use Rattle.std.proofs.lemmas.Option.{slice_get-map}
+use Rattle.std.{specs.Prelude.slice_get, proofs.lemmas.Option.slice_get-map}
 use Rattle.journal_core.specs.Entries.{effects}
 use Rattle.manager_commands.proofs.TagReadings.{tags_seen}
-use Rattle.device_commands.specs.device_rules.specs.TagCommands.{tag_seen}
-use Rattle.device_commands.specs.device_rules.specs.Tags.{open_tags}
+use Rattle.device_commands.specs.device_rules.specs.{TagCommands.tag_seen, Tags.open_tags}
 use Rattle.tag_refs.specs.Tables.{tag_view}
 use Rattle.control_core.specs.Pasts.{ByEveryPast, LiveControlled}
 use Rattle.control_core.proofs.live.LiveControl.tag.Goals as goal

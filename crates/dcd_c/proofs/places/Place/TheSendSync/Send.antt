@@ -4,14 +4,11 @@ use base.Shift.{Keyless}
 use denote.Memory.{lone}
 use denote.Param.Send.{IsSend, owning_send, sendable}
 use denote.RawPtr.{Ptr}
-use Rattle.std.specs.Prelude.{Option, Some, None}
-use Rattle.std.proofs.Crossing.{frees}
+use Rattle.std.{specs.Prelude.Option, specs.Prelude.Some, specs.Prelude.None, proofs.Crossing.frees}
 use Rattle.std_alloc.proofs.SendSync as any
+use Rattle.dcd_c.{proofs.sessions.Session.TheSendSync.the_send, specs.Places.place_owns, specs.Places.the_heap, specs.contracts.places.Place.the_row, specs.contracts.places.Place.the_type}
 use Rattle.dcd_c.specs.declared.sessions.Session.{Session}
 use Rattle.dcd_c.specs.contracts.sessions.Session as device
-use Rattle.dcd_c.proofs.sessions.Session.TheSendSync.{the_send}
-use Rattle.dcd_c.specs.Places.{place_owns, the_heap}
-use Rattle.dcd_c.specs.contracts.places.Place.{the_row, the_type}
 
 owned_keyless : (at : Ptr) (o : Option Session) → Keyless (place_owns at o)
 owned_keyless at None = tt

@@ -1,6 +1,6 @@
 -- `taken_out` moves what the place owns to the parts.
 use Rattle.std.proofs.Common.{◌≡◌, List, [], ◌∷◌, ◌++◌, refl, sym, ap, subst, ◌∙◌}
-use Rattle.std.specs.Prelude.{IsTrue, Option, Some}
+use Rattle.std.{specs.Prelude.IsTrue, specs.Prelude.Option, specs.Prelude.Some, specs.contracts.impls.GlobalAllocator.TheImpl.ghosts, proofs.raw_atomic.Walks.proved_at, proofs.raw_atomic.Walks.leaves}
 use mir.Val.{Val, vptr}
 use mir.Raw.{raw as bare}
 use base.Logic.{SProp, ent, emp, id⊢, never, fst∗}
@@ -25,16 +25,10 @@ use Rattle.core.proofs.cell.Inside.{one}
 use Rattle.std_alloc.specs.Box.Ownership.{box_owns}
 use Rattle.std.specs.contracts.alloc.Global as heap
 use Rattle.std.proofs.alloc.Global.TheLaws as heap_laws
-use Rattle.std.specs.contracts.impls.GlobalAllocator.TheImpl.{ghosts}
-use Rattle.std.proofs.raw_atomic.Walks.{proved_at, leaves}
 use Rattle.dcd_c.specs.contracts.sessions.Session as device
-use Rattle.dcd_c.specs.declared.sessions.Session.{Session}
-use Rattle.dcd_c.specs.Places.{has_device, place_owns}
-use Rattle.dcd_c.proofs.LooseValues.{both, loose_good, loose_in}
-use Rattle.dcd_c.proofs.PlaceValues.{Place, found, single, place_out}
-use Rattle.dcd_c.specs.contracts.places.Place.taken_out.{ended, clauses}
-use Rattle.dcd_c.specs.contracts.places.Place.taken_out.Key.{name as #self}
-use Rattle.dcd_c.proofs.places.Place.taken_out.Statement.{statement}
+use Rattle.dcd_c.proofs.{LooseValues.both, LooseValues.loose_good, LooseValues.loose_in, PlaceValues.Place, PlaceValues.found, PlaceValues.single, PlaceValues.place_out}
+use Rattle.dcd_c.{proofs.places.Place.taken_out.Statement.statement, specs.Places.has_device, specs.Places.place_owns}
+use Rattle.dcd_c.specs.{contracts.places.Place.taken_out.ended, contracts.places.Place.taken_out.clauses, contracts.places.Place.taken_out.Key.name as #self, declared.sessions.Session.Session}
 use Rattle.dcd_c.proofs.places.Place.taken_out.Code as code
 
 pub taken_out_spec : {M : Type 1} → statement M

@@ -1,14 +1,9 @@
 use Rattle.std.proofs.Common.{◌≡◌, ◌∙◌, [], Err, ap, subst, sym}
-use Rattle.extent_list.specs.dcd_codes.specs.Rules.{code_of}
-use Rattle.extent_list.specs.dcd_codes.specs.declared.refusals.Refusal.{Refusal}
-use Rattle.extent_list.specs.dcd_codes.specs.declared.rules.Rule.{Rule}
-use Rattle.control_core.specs.device_rules.specs.Answers.{response}
-use Rattle.device_plain.specs.Alone.{DoesAlone}
+use Rattle.extent_list.specs.dcd_codes.specs.{Rules.code_of, declared.refusals.Refusal.Refusal, declared.rules.Rule.Rule}
+use Rattle.control_core.specs.{device_rules.specs.Answers.response, host_commands.specs.HostMessages.IsDrafted}
+use Rattle.device_plain.{specs.Alone.DoesAlone, proofs.AloneCommands.command_refused, proofs.AloneCommands.does_enacted}
 use Rattle.isolation_laws.specs.declared.items.SoloReply.{SoloReply}
-use Rattle.journal_core.specs.declared.acts.Act.{Act}
-use Rattle.journal_core.specs.declared.acts.Reply.{Reply}
-use Rattle.control_core.specs.host_commands.specs.HostMessages.{IsDrafted}
-use Rattle.device_plain.proofs.AloneCommands.{command_refused, does_enacted}
+use Rattle.journal_core.specs.declared.acts.{Act.Act, Reply.Reply}
 use Rattle.device_plain.proofs.alone.Alone.command.Goals as goal
 
 pub returns-in-Ok : goal.returns-in-Ok

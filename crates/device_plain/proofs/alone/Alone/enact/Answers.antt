@@ -1,11 +1,8 @@
-use Rattle.std.proofs.Common.{◌∙◌, List, ap}
-use Rattle.std.specs.Prelude.{fold, if◌then◌else◌}
-use Rattle.std.specs.List.{list_any}
+use Rattle.std.{proofs.Common.◌∙◌, proofs.Common.List, proofs.Common.ap, specs.Prelude.fold, specs.Prelude.if◌then◌else◌, specs.List.list_any}
 use Rattle.dcd_base.specs.declared.steps.LogId.{LogId}
 use Rattle.granule_mem.specs.Contents.{word_among}
 use Rattle.journal_core.specs.declared.outcome.Effect.{Effect}
-use Rattle.control_core.specs.device_state.specs.Entered.{log_by}
-use Rattle.control_core.specs.device_state.specs.EnteredLists.{counted, lists_by}
+use Rattle.control_core.specs.device_state.specs.{Entered.log_by, EnteredLists.counted, EnteredLists.lists_by}
 use Rattle.isolation_laws.specs.Solo.{accepts_byte}
 use Rattle.device_plain.proofs.alone.Alone.enact.Goals as goal
 

@@ -4,8 +4,7 @@ use Rattle.control_core.specs.device_rules.specs.Outcomes.{records_of_extents}
 use Rattle.event_records.specs.declared.events.EventKind.{EventKind}
 use Rattle.extent_list.specs.HostLists.{extent_total}
 use Rattle.isolation_laws.specs.declared.items.Item.{Item}
-use Rattle.device_plain.proofs.BroughtLists.{keeps_offer, offered_to, offered_total, too_many_offered, with_offer}
-use Rattle.device_plain.proofs.ToldAlone.{takes_told}
+use Rattle.device_plain.proofs.{BroughtLists.keeps_offer, BroughtLists.offered_to, BroughtLists.offered_total, BroughtLists.too_many_offered, BroughtLists.with_offer, ToldAlone.takes_told}
 use Rattle.device_plain.proofs.alone.Alone.give.Goals as goal
 
 pub returns-then-len-total : goal.returns-then-len-total

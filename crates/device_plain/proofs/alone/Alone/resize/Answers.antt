@@ -1,13 +1,9 @@
 use Rattle.std.proofs.Common.{◌<◌, ◌≤◌, length, refl, sym, ap, subst, arith}
 use Rattle.control_core.specs.device_rules.specs.Views.{View}
-use Rattle.region_config.specs.Configurations.{Configuration}
-use Rattle.region_config.specs.declared.region_spec.RegionSpec.{RegionSpec}
-use Rattle.device_plain.specs.Alone.{IsAlone}
-use Rattle.isolation_laws.specs.Solo.{block_set}
-use Rattle.device_plain.specs.Telling.{resized}
-use Rattle.isolation_laws.specs.declared.items.Item.{Item}
+use Rattle.region_config.specs.{Configurations.Configuration, declared.region_spec.RegionSpec.RegionSpec}
 use Rattle.device_plain.proofs.NewBlocks.{is_set, keeps_size, past_regions, refused_unsupported, set_supported, unsupported, with_size}
-use Rattle.device_plain.proofs.ToldAlone.{takes_told}
+use Rattle.device_plain.{proofs.ToldAlone.takes_told, specs.Alone.IsAlone, specs.Telling.resized}
+use Rattle.isolation_laws.specs.{Solo.block_set, declared.items.Item.Item}
 use Rattle.device_plain.proofs.alone.Alone.resize.Goals as goal
 
 pub returns-then-region-regions : goal.returns-then-region-regions

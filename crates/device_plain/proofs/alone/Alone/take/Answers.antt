@@ -1,13 +1,11 @@
 use Rattle.std.proofs.Common.{◌≡◌, ◌+◌, ◌<◌, ◌≤◌, List, length, inl, inr, refl, sym, ap, ◌∙◌, subst, arith}
-use Rattle.std.specs.Prelude.{◌^◌, All, IsTrue}
-use Rattle.std.proofs.lemmas.Bool.{false≢true}
+use Rattle.std.{specs.Prelude.◌^◌, specs.Prelude.All, specs.Prelude.IsTrue, proofs.lemmas.Bool.false≢true}
 use Rattle.dcd_base.specs.declared.capacity.Extent.{Extent}
 use Rattle.control_core.specs.device_rules.specs.Outcomes.{records_of_extents}
 use Rattle.event_records.specs.declared.events.EventKind.{EventKind}
 use Rattle.extent_list.specs.HostLists.{Lists, extent_total}
 use Rattle.isolation_laws.specs.declared.items.Item.{Item}
-use Rattle.device_plain.proofs.BroughtLists.{keeps_taken, taken_from, too_many_left, without_taken}
-use Rattle.device_plain.proofs.ToldAlone.{takes_told}
+use Rattle.device_plain.proofs.{BroughtLists.keeps_taken, BroughtLists.taken_from, BroughtLists.too_many_left, BroughtLists.without_taken, ToldAlone.takes_told}
 use Rattle.device_plain.proofs.alone.Alone.take.Goals as goal
 
 pub returns-then-len-offered : goal.returns-then-len-offered

@@ -1,9 +1,7 @@
 use Rattle.std.proofs.Common.{ℕ, [], ◌∷◌, false, ◌∙◌, ap}
 use Rattle.control_core.specs.device_rules.specs.Outcomes.{record_for, no_extent}
-use Rattle.event_records.specs.declared.events.Event.{Event}
-use Rattle.event_records.specs.declared.events.EventKind.{EventKind}
-use Rattle.device_plain.specs.Telling.{resized}
-use Rattle.device_plain.proofs.ToldAlone.{logs_put, shown}
+use Rattle.event_records.specs.declared.events.{Event.Event, EventKind.EventKind}
+use Rattle.device_plain.{specs.Telling.resized, proofs.ToldAlone.logs_put, proofs.ToldAlone.shown}
 use Rattle.device_plain.proofs.alone.Alone.tell_size.Goals as goal
 
 pub returns : goal.returns

@@ -1,14 +1,8 @@
 use Rattle.std.proofs.Common.{◌∷◌, ◌++◌, [], List, sym, subst, ap, refl, ◌∙◌}
-use Rattle.journal_core.specs.declared.acts.Act.{Act}
-use Rattle.journal_core.specs.declared.entries.Entry.{Entry}
-use Rattle.journal_core.specs.Merging.{merged}
+use Rattle.journal_core.specs.{declared.acts.Act.Act, declared.entries.Entry.Entry, Merging.merged}
 use Rattle.region_config.specs.Configurations.{Configuration}
-use Rattle.control_core.specs.Deciding.{IsShort}
-use Rattle.control_core.specs.Steps.{MayStep, journal_entry}
-use Rattle.device_plain.specs.Accesses.{AreZeroed}
-use Rattle.device_plain.specs.Devices.{Plain}
-use Rattle.device_plain.specs.Keeping.{KeepsBoth}
-use Rattle.device_plain.proofs.Merged.{both_command, grown_command}
+use Rattle.control_core.specs.{Deciding.IsShort, Steps.MayStep, Steps.journal_entry}
+use Rattle.device_plain.{specs.Accesses.AreZeroed, specs.Devices.Plain, specs.Keeping.KeepsBoth, proofs.Merged.both_command, proofs.Merged.grown_command}
 use Rattle.device_plain.proofs.device.Device.answered.Goals as goal
 
 pub invariant_of-self-2 : goal.invariant_of-self-2

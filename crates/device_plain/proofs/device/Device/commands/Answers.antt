@@ -1,8 +1,5 @@
-use Rattle.std.proofs.Common.{sym, ap, ◌∙◌, length}
-use Rattle.std.proofs.lemmas.List.{nil_from_length}
-use Rattle.std.proofs.lemmas.Bool.{eqb-true}
-use Rattle.device_plain.specs.Devices.{Plain}
-use Rattle.device_plain.proofs.Merged.{control_rises, without_accesses}
+use Rattle.std.proofs.{Common.sym, Common.ap, Common.◌∙◌, Common.length, lemmas.List.nil_from_length, lemmas.Bool.eqb-true}
+use Rattle.device_plain.{specs.Devices.Plain, proofs.Merged.control_rises, proofs.Merged.without_accesses}
 use Rattle.device_plain.proofs.device.Device.commands.Goals as goal
 
 pub returns-then-is_empty-clause-all : goal.returns-then-is_empty-clause-all

@@ -1,8 +1,7 @@
 use Rattle.std.proofs.Common.{[], ◌∷◌, sym, subst}
 use Rattle.control_core.specs.device_rules.specs.Legal.{Exclusive}
 use Rattle.journal_core.specs.Merging.{Rising, merged}
-use Rattle.device_plain.specs.Devices.{Plain}
-use Rattle.device_plain.proofs.Merged.{accesses_rise, control_rises}
+use Rattle.device_plain.{specs.Devices.Plain, proofs.Merged.accesses_rise, proofs.Merged.control_rises}
 use Rattle.device_plain.proofs.device.Device.journal.Goals as goal
 
 pub whole-requires-clause-control : goal.whole-requires-clause-control

@@ -1,19 +1,12 @@
 use Rattle.std.proofs.Common.{◌<◌, ◌+◌, ◌∷◌, ◌++◌, [], List, length, sym, ap, subst, ◌∙◌, arith}
 use Rattle.std.specs.Prelude.{IfOk}
 use Rattle.dcd_base.specs.declared.media.Place.{Place}
-use Rattle.journal_core.specs.declared.acts.Act.{Act}
-use Rattle.journal_core.specs.declared.entries.Entry.{Entry}
-use Rattle.journal_core.specs.Accesses.{access_entry, load_said}
-use Rattle.journal_core.specs.Entries.{effects, is_control}
-use Rattle.journal_core.specs.Merging.{merged}
+use Rattle.journal_core.specs.{declared.acts.Act.Act, declared.entries.Entry.Entry, Accesses.access_entry, Accesses.load_said, Entries.effects, Entries.is_control, Merging.merged}
 use Rattle.media_map.specs.Places.{locate}
-use Rattle.region_config.specs.Configurations.{Configuration}
-use Rattle.region_config.specs.Granules.{granule_total}
+use Rattle.region_config.specs.{Configurations.Configuration, Granules.granule_total}
 use Rattle.control_core.specs.Pasts.{IsPast}
-use Rattle.device_plain.specs.Accesses.{granted_place, word_from}
-use Rattle.device_plain.specs.Devices.{Plain}
+use Rattle.device_plain.{proofs.Merged.both_load, proofs.Merged.few_since, proofs.Merged.grown_access, specs.Accesses.granted_place, specs.Accesses.word_from, specs.Devices.Plain}
 use Rattle.device_plain.specs.Keeping.{KeepsBoth}
-use Rattle.device_plain.proofs.Merged.{both_load, few_since, grown_access}
 use Rattle.device_plain.proofs.device.Device.load.Goals as goal
 
 pub stamp_of-stamp-requires : goal.stamp_of-stamp-requires

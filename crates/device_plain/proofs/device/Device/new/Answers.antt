@@ -1,8 +1,7 @@
 use Rattle.std.proofs.Common.{[], List, sym, subst, ◌∙◌}
 use Rattle.journal_core.specs.declared.entries.Entry.{Entry}
 use Rattle.region_config.specs.Configurations.{Configuration}
-use Rattle.device_plain.specs.Keeping.{KeepsBoth}
-use Rattle.device_plain.proofs.Merged.{both_first}
+use Rattle.device_plain.{specs.Keeping.KeepsBoth, proofs.Merged.both_first}
 use Rattle.device_plain.proofs.device.Device.new.Goals as goal
 
 pub invariant_of-result : goal.invariant_of-result

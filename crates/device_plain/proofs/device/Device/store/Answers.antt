@@ -1,18 +1,11 @@
 use Rattle.std.proofs.Common.{◌<◌, ◌+◌, ◌∷◌, ◌++◌, [], List, length, sym, ap, subst, ◌∙◌, arith}
 use Rattle.std.specs.declared.result.Result.{Result}
-use Rattle.dcd_base.specs.declared.failures.AccessFault.{AccessFault}
-use Rattle.dcd_base.specs.declared.media.Place.{Place}
-use Rattle.journal_core.specs.declared.acts.Act.{Act}
-use Rattle.journal_core.specs.declared.entries.Entry.{Entry}
-use Rattle.journal_core.specs.Accesses.{access_entry}
-use Rattle.journal_core.specs.Entries.{effects, is_control}
-use Rattle.journal_core.specs.Merging.{merged}
+use Rattle.dcd_base.specs.declared.{failures.AccessFault.AccessFault, media.Place.Place}
+use Rattle.journal_core.specs.{declared.acts.Act.Act, declared.entries.Entry.Entry, Accesses.access_entry, Entries.effects, Entries.is_control, Merging.merged}
 use Rattle.region_config.specs.Configurations.{Configuration}
 use Rattle.control_core.specs.Pasts.{IsPast}
-use Rattle.device_plain.specs.Accesses.{StoresAt, granted_place, store_said}
-use Rattle.device_plain.specs.Devices.{Plain}
-use Rattle.device_plain.specs.Keeping.{KeepsBoth}
-use Rattle.device_plain.proofs.Merged.{both_store, few_since, grown_access}
+use Rattle.device_plain.{proofs.Merged.both_store, proofs.Merged.few_since, proofs.Merged.grown_access, specs.Accesses.StoresAt, specs.Accesses.granted_place, specs.Accesses.store_said}
+use Rattle.device_plain.specs.{Devices.Plain, Keeping.KeepsBoth}
 use Rattle.device_plain.proofs.device.Device.store.Goals as goal
 
 pub stamp_of-stamp-requires : goal.stamp_of-stamp-requires

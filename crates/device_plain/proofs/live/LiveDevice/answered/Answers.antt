@@ -1,13 +1,8 @@
-use Rattle.std.proofs.Common.{◌∙◌, ap, subst, sym}
-use Rattle.std.specs.Prelude.{IsTrue}
-use Rattle.journal_core.specs.Entries.{is_control}
-use Rattle.journal_core.specs.declared.acts.Act.{Act}
-use Rattle.journal_core.specs.declared.acts.Reply.{Reply}
-use Rattle.control_core.specs.Deciding.{IsDecidedBy}
-use Rattle.control_core.specs.Steps.{MayStep}
-use Rattle.control_core.specs.device_rules.specs.Legal.{Meets}
-use Rattle.device_plain.specs.Lives.{Changes, IsLife, IsReplyTo, Living, living, without_spare}
+use Rattle.std.{proofs.Common.◌∙◌, proofs.Common.ap, proofs.Common.subst, proofs.Common.sym, specs.Prelude.IsTrue}
+use Rattle.journal_core.specs.{Entries.is_control, declared.acts.Act.Act, declared.acts.Reply.Reply}
+use Rattle.control_core.specs.{Deciding.IsDecidedBy, Steps.MayStep, device_rules.specs.Legal.Meets}
 use Rattle.device_plain.proofs.LifeSteps.{answer_kind, can_take, effects_decided, life_inside, life_seen, past_of, right_is}
+use Rattle.device_plain.specs.Lives.{Changes, IsLife, IsReplyTo, Living, living, without_spare}
 use Rattle.device_plain.proofs.live.LiveDevice.answered.Goals as goal
 
 pub take-requires : goal.take-requires

@@ -1,12 +1,9 @@
 use Rattle.std.proofs.Common.{ap, subst, ◌∙◌}
 use Rattle.dcd_base.specs.declared.steps.Actor.{Actor}
-use Rattle.journal_core.specs.Accesses.{load_said}
-use Rattle.journal_core.specs.declared.acts.Act.{Act}
+use Rattle.journal_core.specs.{Accesses.load_said, declared.acts.Act.Act}
 use Rattle.media_map.specs.Places.{locate}
-use Rattle.device_plain.specs.Accesses.{word_from}
+use Rattle.device_plain.{proofs.LifeSteps.life_inside, proofs.LifeSteps.life_loaded, proofs.LifeSteps.past_of, proofs.MemorySteps.load_right, specs.Accesses.word_from}
 use Rattle.device_plain.specs.Lives.{IsRightReply, Living, LivesOn, living, without_spare}
-use Rattle.device_plain.proofs.LifeSteps.{life_inside, life_loaded, past_of}
-use Rattle.device_plain.proofs.MemorySteps.{load_right}
 use Rattle.device_plain.proofs.live.LiveDevice.load.Goals as goal
 
 pub returns-clause-reply : goal.returns-clause-reply

@@ -1,12 +1,9 @@
-use Rattle.std.proofs.Common.{◌<◌, ap, subst, sym, ◌∙◌}
-use Rattle.std.proofs.lemmas.Bool.{lt-ltb}
+use Rattle.std.proofs.{Common.◌<◌, Common.ap, Common.subst, Common.sym, Common.◌∙◌, lemmas.Bool.lt-ltb}
 use Rattle.dcd_base.specs.declared.steps.Actor.{Actor}
 use Rattle.journal_core.specs.declared.acts.Act.{Act}
 use Rattle.media_map.specs.Places.{locate}
-use Rattle.device_plain.specs.Accesses.{store_said}
+use Rattle.device_plain.{proofs.LifeSteps.alive_on, proofs.LifeSteps.life_inside, proofs.LifeSteps.life_stored, proofs.LifeSteps.past_of, proofs.MemorySteps.store_right, specs.Accesses.store_said}
 use Rattle.device_plain.specs.Lives.{IsRightReply, Living, LivesOn, living, without_spare}
-use Rattle.device_plain.proofs.LifeSteps.{alive_on, life_inside, life_stored, past_of}
-use Rattle.device_plain.proofs.MemorySteps.{store_right}
 use Rattle.device_plain.proofs.live.LiveDevice.store.Goals as goal
 
 pub invariant_of-self-2 : goal.invariant_of-self-2

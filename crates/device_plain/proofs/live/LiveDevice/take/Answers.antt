@@ -1,9 +1,8 @@
 use Rattle.std.proofs.Common.{List, [], ◌∷◌, ◌++◌, subst, sym}
 use Rattle.journal_core.specs.declared.outcome.Effect.{Effect}
 use Rattle.control_core.specs.Pasts.{EntersStep, IsOfStep}
-use Rattle.device_plain.specs.Accesses.{AreZeroed}
-use Rattle.device_plain.specs.Lives.{CanTake, Living, TakesEffects, living, without_spare}
 use Rattle.device_plain.proofs.LifeSteps.{can_inside, can_with_room, life_inside, life_seen, life_taken, whole_taken}
+use Rattle.device_plain.specs.{Accesses.AreZeroed, Lives.CanTake, Lives.Living, Lives.TakesEffects, Lives.living, Lives.without_spare}
 use Rattle.device_plain.proofs.live.LiveDevice.take.Goals as goal
 
 pub enter-requires-clause-step : goal.enter-requires-clause-step

@@ -1,9 +1,7 @@
 use Rattle.std.proofs.Common.{◌≡◌, ℕ, ◌+◌, min, ap, ◌∙◌, subst, length, arith}
 use Rattle.std.specs.Prelude.{if◌then◌else◌}
-use Rattle.cci_codec.specs.dcd_base.specs.declared.media.Run.{Run}
-use Rattle.device_state.specs.Entered.{held_in}
-use Rattle.device_state.proofs.HolderSteps.{whole_held}
-use Rattle.cci_codec.specs.dcd_base.specs.Hosts.{with_host, without_host}
+use Rattle.cci_codec.specs.dcd_base.specs.{declared.media.Run.Run, Hosts.with_host, Hosts.without_host}
+use Rattle.device_state.{specs.Entered.held_in, proofs.HolderSteps.whole_held}
 use Rattle.device_state.proofs.holders.Holders.set.Goals as goal
 
 pub returns : goal.returns

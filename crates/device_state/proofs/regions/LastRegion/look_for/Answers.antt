@@ -1,7 +1,6 @@
 use Rattle.std.proofs.Common.{◌≡◌, ◌/◌, ◌<◌, ◌∙◌, Some, length, ap, arith}
 use Rattle.extent_list.specs.media_map.specs.region_config.specs.Granules.{region_granules}
-use Rattle.device_state.specs.Granules.{flags_of}
-use Rattle.device_state.proofs.RegionFound.{found_in, is_region}
+use Rattle.device_state.{specs.Granules.flags_of, proofs.RegionFound.found_in, proofs.RegionFound.is_region}
 use Rattle.device_state.proofs.regions.LastRegion.look_for.Goals as goal
 
 pub returns-then-from-end-clause-last : goal.returns-then-from-end-clause-last

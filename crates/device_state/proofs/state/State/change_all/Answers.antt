@@ -1,10 +1,6 @@
-use Rattle.std.proofs.Common.{◌∙◌, ap, sym, subst, get_or}
-use Rattle.std.specs.Prelude.{All}
-use Rattle.std.proofs.lemmas.List.Sums.{fold_more}
-use Rattle.device_state.specs.Entered.{holders_by, present_by}
+use Rattle.std.{proofs.Common.◌∙◌, proofs.Common.ap, proofs.Common.sym, proofs.Common.subst, proofs.Common.get_or, specs.Prelude.All, proofs.lemmas.List.Sums.fold_more}
+use Rattle.device_state.{proofs.OfDevice.all_alike, proofs.OfDevice.alike-by, proofs.Stages.cells_more, proofs.Stages.parts_more, specs.Entered.holders_by, specs.Entered.present_by}
 use Rattle.device_state.specs.Updates.{IsOfDevice}
-use Rattle.device_state.proofs.OfDevice.{all_alike, alike-by}
-use Rattle.device_state.proofs.Stages.{cells_more, parts_more}
 use Rattle.device_state.proofs.state.State.change_all.Goals as goal
 
 pub loop-effect-preserved : goal.loop-effect-preserved

@@ -1,9 +1,5 @@
-use Rattle.std.proofs.Common.{◌≡◌, take}
-use Rattle.std.specs.Prelude.{All, fold}
-use Rattle.device_state.specs.Entered.{holders_by, present_by}
-use Rattle.device_state.specs.Granules.{CellsOver, IsLastRegion}
-use Rattle.device_state.specs.Stages.{PartsOver}
-use Rattle.device_state.specs.Updates.{IsOfDevice}
+use Rattle.std.{proofs.Common.◌≡◌, proofs.Common.take, specs.Prelude.All, specs.Prelude.fold}
+use Rattle.device_state.specs.{Entered.holders_by, Entered.present_by, Granules.CellsOver, Granules.IsLastRegion, Stages.PartsOver, Updates.IsOfDevice}
 use Rattle.device_state.proofs.state.State.change_all.Given as goal
 
 abbrev pub invariant-loop-effect : goal.invariant-loop-effect

@@ -1,14 +1,9 @@
-use Rattle.std.proofs.Common.{◌∙◌, ap, arith, length, sym, subst}
-use Rattle.std.specs.Prelude.{All, fold}
+use Rattle.std.{proofs.Common.◌∙◌, proofs.Common.ap, proofs.Common.arith, proofs.Common.length, proofs.Common.sym, proofs.Common.subst, specs.Prelude.All, specs.Prelude.fold}
 use Rattle.granule_map.specs.Tables.{cell_at}
-use Rattle.extent_list.specs.media_map.specs.region_config.specs.Configurations.{Configuration}
-use Rattle.extent_list.specs.media_map.specs.region_config.specs.Granules.{region_spec}
+use Rattle.extent_list.specs.media_map.specs.region_config.specs.{Configurations.Configuration, Granules.region_spec}
 use Rattle.tag_refs.specs.Tables.{TagTable}
-use Rattle.device_state.specs.EnteredLists.{Fits, counted, lists_by, tags_over}
-use Rattle.device_state.specs.Updates.{IsOfDevice}
-use Rattle.device_state.specs.declared.state.State.{State}
-use Rattle.device_state.proofs.Listed.{lists_same}
-use Rattle.device_state.proofs.OfDevice.{all_alike, alike-blocks}
+use Rattle.device_state.proofs.{Listed.lists_same, OfDevice.all_alike, OfDevice.alike-blocks}
+use Rattle.device_state.specs.{EnteredLists.Fits, EnteredLists.counted, EnteredLists.lists_by, EnteredLists.tags_over, Updates.IsOfDevice, declared.state.State.State}
 use Rattle.device_state.proofs.state.State.enter.Goals as goal
 
 pub change_all-requires-clause-of_present : goal.change_all-requires-clause-of_present

@@ -1,9 +1,7 @@
 use Rattle.std.proofs.Common.{◌++◌, ◌<◌, ap, arith, length}
 use Rattle.journal_core.specs.declared.outcome.Effect.{Effect}
-use Rattle.device_state.specs.EnteredLists.{held_of, with_held}
-use Rattle.device_state.specs.StateAfter.{part_of}
+use Rattle.device_state.{proofs.Listed.listed, proofs.Listed.of_hold, proofs.Listed.own_hold, specs.EnteredLists.held_of, specs.EnteredLists.with_held, specs.StateAfter.part_of}
 use Rattle.device_state.specs.declared.state.State.{State}
-use Rattle.device_state.proofs.Listed.{listed, of_hold, own_hold}
 use Rattle.device_state.proofs.state.State.hold.Goals as goal
 
 pub returns-clause-listed : goal.returns-clause-listed

@@ -1,10 +1,7 @@
 use Rattle.std.proofs.Common.{◌≡◌, ◌∙◌, [], ◌∷◌, ap, get_or}
 use Rattle.extent_list.specs.HostLists.{Lists}
-use Rattle.device_state.specs.EnteredLists.{told}
-use Rattle.device_state.specs.Leaves.{lists_left, owner_tag}
-use Rattle.device_state.specs.StateAfter.{no_part, part_of}
+use Rattle.device_state.{proofs.Listed.own_part, specs.EnteredLists.told, specs.Leaves.lists_left, specs.Leaves.owner_tag, specs.StateAfter.no_part, specs.StateAfter.part_of}
 use Rattle.device_state.specs.declared.state.State.{State}
-use Rattle.device_state.proofs.Listed.{own_part}
 use Rattle.device_state.proofs.state.State.leave.Goals as goal
 
 pub returns-clause-tags : goal.returns-clause-tags

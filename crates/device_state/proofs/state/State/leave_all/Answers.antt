@@ -1,7 +1,5 @@
 use Rattle.std.proofs.Common.{◌∙◌, ap, sym}
-use Rattle.device_state.specs.StateAfter.{part_of}
-use Rattle.device_state.specs.declared.state.State.{State}
-use Rattle.device_state.proofs.Leaves.{none_told_left}
+use Rattle.device_state.{specs.StateAfter.part_of, specs.declared.state.State.State, proofs.Leaves.none_told_left}
 use Rattle.device_state.proofs.state.State.leave_all.Goals as goal
 
 pub returns-then-is_empty-clause-tags : goal.returns-then-is_empty-clause-tags

@@ -2,11 +2,8 @@ use Rattle.std.proofs.Common.{◌≡◌, ◌<◌, ◌∙◌, ap, arith, length, 
 use Rattle.std.proofs.lemmas.List.{length-take-le, set-get_or}
 use Rattle.extent_list.specs.HostLists.{Lists}
 use Rattle.release_core.proofs.Lengths.{length_cut_all}
-use Rattle.device_state.specs.Leaves.{lists_left}
-use Rattle.device_state.specs.StateAfter.{no_part, part_of}
+use Rattle.device_state.{proofs.Leaves.left_next, proofs.Leaves.told_next, proofs.Listed.own_part, specs.Leaves.lists_left, specs.StateAfter.no_part, specs.StateAfter.part_of}
 use Rattle.device_state.specs.declared.state.State.{State}
-use Rattle.device_state.proofs.Leaves.{left_next, told_next}
-use Rattle.device_state.proofs.Listed.{own_part}
 use Rattle.device_state.proofs.state.State.leave_each.Goals as goal
 
 pub loop-range-init : goal.loop-range-init

@@ -1,7 +1,5 @@
 use Rattle.std.proofs.Common.{◌≡◌, ◌≤◌, take}
-use Rattle.device_state.specs.Entered.{with_lists}
-use Rattle.device_state.specs.Leaves.{lists_left, told_left}
-use Rattle.device_state.specs.StateAfter.{part_of}
+use Rattle.device_state.specs.{Entered.with_lists, Leaves.lists_left, Leaves.told_left, StateAfter.part_of}
 use Rattle.device_state.proofs.state.State.leave_each.Given as goal
 
 abbrev pub invariant-loop-range : goal.invariant-loop-range

@@ -1,14 +1,8 @@
 use Rattle.std.proofs.Common.{◌≡◌, ◌+◌, ◌≤◌, ◌++◌, ◌∙◌, List, ap, arith, drop, subst, sym, take}
-use Rattle.std.specs.Prelude.{All, fold}
-use Rattle.std.proofs.Math.Seq.{take-add}
-use Rattle.std.proofs.lemmas.List.{take_all}
-use Rattle.std.proofs.lemmas.List.Elements.{All-drop}
+use Rattle.std.{specs.Prelude.All, specs.Prelude.fold, proofs.Math.Seq.take-add, proofs.lemmas.List.take_all, proofs.lemmas.List.Elements.All-drop}
 use Rattle.journal_core.specs.declared.outcome.Effect.{Effect}
-use Rattle.device_state.specs.EnteredLists.{Fits, lists_of, room_by}
-use Rattle.device_state.specs.Stages.{IsListedOver}
-use Rattle.device_state.specs.Updates.{IsOfDevice}
-use Rattle.device_state.specs.declared.state.State.{State}
 use Rattle.device_state.proofs.Listed.{fits_behind, fits_more, listed_behind, room_behind, room_left}
+use Rattle.device_state.specs.{EnteredLists.Fits, EnteredLists.lists_of, EnteredLists.room_by, Stages.IsListedOver, Updates.IsOfDevice, declared.state.State.State}
 use Rattle.device_state.proofs.state.State.list_all.Goals as goal
 
 pub list_front-done-requires-clause-of_device : goal.list_front-done-requires-clause-of_device

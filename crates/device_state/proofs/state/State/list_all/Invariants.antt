@@ -1,7 +1,5 @@
-use Rattle.std.proofs.Common.{◌≡◌, ◌-◌, ◌≤◌, length, take}
-use Rattle.std.specs.Prelude.{fold}
-use Rattle.device_state.specs.EnteredLists.{room_by}
-use Rattle.device_state.specs.Stages.{IsListedOver}
+use Rattle.std.{proofs.Common.◌≡◌, proofs.Common.◌-◌, proofs.Common.◌≤◌, proofs.Common.length, proofs.Common.take, specs.Prelude.fold}
+use Rattle.device_state.specs.{EnteredLists.room_by, Stages.IsListedOver}
 use Rattle.device_state.proofs.state.State.list_all.Given as goal
 
 abbrev pub invariant-loop-done : goal.invariant-loop-done

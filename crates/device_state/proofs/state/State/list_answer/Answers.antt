@@ -2,12 +2,8 @@ use Rattle.std.proofs.Common.{◌≡◌, ◌<◌, ◌++◌, ◌∙◌, ap, arith
 use Rattle.extent_list.specs.HostLists.{Lists}
 use Rattle.journal_core.specs.declared.outcome.Effect.{Effect}
 use Rattle.offer_core.specs.Offerings.{oldest_of}
-use Rattle.device_state.specs.Entered.{with_lists}
-use Rattle.device_state.specs.EnteredLists.{each_tag, lists_by, told}
-use Rattle.device_state.specs.StateAfter.{part_of}
-use Rattle.device_state.specs.declared.parts.HostPart.{HostPart}
-use Rattle.device_state.specs.declared.state.State.{State}
-use Rattle.device_state.proofs.Listed.{listed, of_answer, own_answer, own_part, twice}
+use Rattle.device_state.{proofs.Listed.listed, proofs.Listed.of_answer, proofs.Listed.own_answer, proofs.Listed.own_part, proofs.Listed.twice, specs.Entered.with_lists}
+use Rattle.device_state.specs.{EnteredLists.each_tag, EnteredLists.lists_by, EnteredLists.told, StateAfter.part_of, declared.parts.HostPart.HostPart, declared.state.State.State}
 use Rattle.device_state.proofs.state.State.list_answer.Goals as goal
 
 pub returns-clause-listed : goal.returns-clause-listed

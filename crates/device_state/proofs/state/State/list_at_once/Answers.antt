@@ -1,10 +1,7 @@
 use Rattle.std.proofs.Common.{◌≡◌, ◌<◌, ◌∙◌, List, ap, arith, length, sym}
 use Rattle.cci_codec.specs.dcd_base.specs.declared.capacity.Extent.{Extent}
-use Rattle.device_state.specs.Entered.{with_lists}
-use Rattle.device_state.specs.EnteredLists.{lists_of}
-use Rattle.device_state.specs.Leaves.{lists_left, told_left}
+use Rattle.device_state.{proofs.Leaves.left_listed, proofs.Leaves.told_over, specs.Entered.with_lists, specs.EnteredLists.lists_of, specs.Leaves.lists_left, specs.Leaves.told_left}
 use Rattle.device_state.specs.StateAfter.{part_of}
-use Rattle.device_state.proofs.Leaves.{left_listed, told_over}
 use Rattle.device_state.proofs.state.State.list_at_once.Goals as goal
 
 pub returns-clause-listed : goal.returns-clause-listed

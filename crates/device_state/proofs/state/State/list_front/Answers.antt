@@ -1,6 +1,5 @@
 use Rattle.std.proofs.Common.{arith, sym, subst}
-use Rattle.device_state.specs.EnteredLists.{HasPlaces, lists_of}
-use Rattle.device_state.proofs.Listed.{fits_at, listed_one, room_one}
+use Rattle.device_state.{specs.EnteredLists.HasPlaces, specs.EnteredLists.lists_of, proofs.Listed.fits_at, proofs.Listed.listed_one, proofs.Listed.room_one}
 use Rattle.device_state.proofs.state.State.list_front.Goals as goal
 
 pub list-requires-clause-places : goal.list-requires-clause-places

@@ -1,13 +1,8 @@
 use Rattle.std.proofs.Common.{◌≡◌, ◌<◌, ◌∙◌, [], ◌∷◌, arith, length, sym}
-use Rattle.extent_list.specs.ExtentLists.{cut}
-use Rattle.extent_list.specs.HostLists.{Lists}
-use Rattle.extent_list.specs.media_map.specs.Places.{bytes_of_run, start_of}
+use Rattle.extent_list.specs.{ExtentLists.cut, HostLists.Lists, media_map.specs.Places.bytes_of_run, media_map.specs.Places.start_of}
 use Rattle.journal_core.specs.declared.outcome.Effect.{Effect}
-use Rattle.device_state.specs.Entered.{with_lists}
-use Rattle.device_state.specs.EnteredLists.{lists_by, tag_left, told}
-use Rattle.device_state.specs.Leaves.{lists_left, owner_tag, told_left}
-use Rattle.device_state.specs.StateAfter.{part_of}
-use Rattle.device_state.proofs.Listed.{listed, of_leave, own_leave}
+use Rattle.device_state.{proofs.Listed.listed, proofs.Listed.of_leave, proofs.Listed.own_leave, specs.Entered.with_lists}
+use Rattle.device_state.specs.{EnteredLists.lists_by, EnteredLists.tag_left, EnteredLists.told, Leaves.lists_left, Leaves.owner_tag, Leaves.told_left, StateAfter.part_of}
 use Rattle.device_state.proofs.state.State.list_leave.Goals as goal
 
 pub returns-clause-listed : goal.returns-clause-listed

@@ -1,14 +1,9 @@
 use Rattle.std.proofs.Common.{◌≡◌, ◌≤◌, ◌∙◌, List, ap, arith, get_or, length, subst, sym, take}
-use Rattle.std.specs.Prelude.{All, fold}
-use Rattle.std.proofs.lemmas.List.Elements.{All-take}
+use Rattle.std.{specs.Prelude.All, specs.Prelude.fold, proofs.lemmas.List.Elements.All-take}
 use Rattle.extent_list.specs.HostLists.{Lists}
 use Rattle.journal_core.specs.declared.outcome.Effect.{Effect}
-use Rattle.device_state.specs.EnteredLists.{HasPlaces, lists_of, room_by}
-use Rattle.device_state.specs.Leaves.{HasRun, IsLeaving}
-use Rattle.device_state.specs.Stages.{IsListedOver}
-use Rattle.device_state.specs.StateAfter.{no_part, part_of}
-use Rattle.device_state.proofs.Leaves.{runs_fit, same_room}
-use Rattle.device_state.proofs.Listed.{fits_at, listed_one, room_one}
+use Rattle.device_state.proofs.{Leaves.runs_fit, Leaves.same_room, Listed.fits_at, Listed.listed_one, Listed.room_one}
+use Rattle.device_state.specs.{EnteredLists.HasPlaces, EnteredLists.lists_of, EnteredLists.room_by, Leaves.HasRun, Leaves.IsLeaving, Stages.IsListedOver, StateAfter.no_part, StateAfter.part_of}
 use Rattle.device_state.proofs.state.State.list_leaves.Goals as goal
 
 pub list_at_once-requires-clause-places : goal.list_at_once-requires-clause-places

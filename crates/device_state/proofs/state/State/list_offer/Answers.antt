@@ -2,10 +2,8 @@ use Rattle.std.proofs.Common.{◌≡◌, ◌<◌, ◌++◌, ◌∷◌, [], ◌�
 use Rattle.extent_list.specs.HostLists.{Lists}
 use Rattle.journal_core.specs.declared.outcome.Effect.{Effect}
 use Rattle.tag_refs.specs.Tables.{TagTable}
-use Rattle.device_state.specs.EnteredLists.{lists_by, offered_tag}
-use Rattle.device_state.specs.StateAfter.{part_of}
-use Rattle.device_state.specs.declared.state.State.{State}
-use Rattle.device_state.proofs.Listed.{listed, of_offer, own_offer, own_part}
+use Rattle.device_state.{proofs.Listed.listed, proofs.Listed.of_offer, proofs.Listed.own_offer, proofs.Listed.own_part, specs.EnteredLists.lists_by, specs.EnteredLists.offered_tag}
+use Rattle.device_state.specs.{StateAfter.part_of, declared.state.State.State}
 use Rattle.device_state.proofs.state.State.list_offer.Goals as goal
 
 pub returns-clause-listed : goal.returns-clause-listed

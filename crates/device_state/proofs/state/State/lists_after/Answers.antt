@@ -1,9 +1,6 @@
-use Rattle.std.proofs.Common.{◌∙◌, ap, subst, sym}
-use Rattle.std.specs.Prelude.{fold}
+use Rattle.std.{proofs.Common.◌∙◌, proofs.Common.ap, proofs.Common.subst, proofs.Common.sym, specs.Prelude.fold}
 use Rattle.extent_list.specs.HostLists.{Lists}
-use Rattle.device_state.specs.EnteredLists.{OwnFits, lists_by, lists_of}
-use Rattle.device_state.specs.declared.parts.HostPart.{HostPart}
-use Rattle.device_state.proofs.OwnEffects.{own_fits}
+use Rattle.device_state.{specs.EnteredLists.OwnFits, specs.EnteredLists.lists_by, specs.EnteredLists.lists_of, specs.declared.parts.HostPart.HostPart, proofs.OwnEffects.own_fits}
 use Rattle.device_state.proofs.state.State.lists_after.Goals as goal
 
 pub enter_all_in-requires-clause-fits : goal.enter_all_in-requires-clause-fits

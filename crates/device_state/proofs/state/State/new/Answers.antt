@@ -1,8 +1,7 @@
 use Rattle.std.proofs.Common.{◌∙◌, ap, sym, replicate, false}
 use Rattle.event_log.proofs.Histories.{begins}
 use Rattle.granule_map.specs.declared.states.GranuleState.{GranuleState}
-use Rattle.device_state.specs.StateAfter.{no_part}
-use Rattle.device_state.proofs.Fresh.{first_kept}
+use Rattle.device_state.{specs.StateAfter.no_part, proofs.Fresh.first_kept}
 use Rattle.device_state.proofs.state.State.new.Goals as goal
 
 pub returns : goal.returns

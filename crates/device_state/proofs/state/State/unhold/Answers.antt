@@ -1,9 +1,6 @@
 use Rattle.std.proofs.Common.{[], ◌<◌, ap, arith, length}
 use Rattle.journal_core.specs.declared.outcome.Effect.{Effect}
-use Rattle.device_state.specs.EnteredLists.{with_held}
-use Rattle.device_state.specs.StateAfter.{part_of}
-use Rattle.device_state.specs.declared.state.State.{State}
-use Rattle.device_state.proofs.Listed.{listed, of_unhold, own_unhold}
+use Rattle.device_state.{specs.EnteredLists.with_held, specs.StateAfter.part_of, specs.declared.state.State.State, proofs.Listed.listed, proofs.Listed.of_unhold, proofs.Listed.own_unhold}
 use Rattle.device_state.proofs.state.State.unhold.Goals as goal
 
 pub returns-clause-listed : goal.returns-clause-listed

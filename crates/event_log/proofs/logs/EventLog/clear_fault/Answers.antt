@@ -1,5 +1,4 @@
-use Rattle.std.proofs.Common.{◌∙◌, ◌<◌, length, sym, arith}
-use Rattle.std.proofs.lemmas.Option.{slice_get_within}
+use Rattle.std.proofs.{Common.◌∙◌, Common.◌<◌, Common.length, Common.sym, Common.arith, lemmas.Option.slice_get_within}
 use Rattle.event_log.proofs.Clearing.{in_place, out_of_place, past_records}
 use Rattle.event_log.proofs.logs.EventLog.clear_fault.Goals as goal
 

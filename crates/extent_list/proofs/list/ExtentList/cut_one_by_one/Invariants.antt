@@ -1,6 +1,5 @@
 use Rattle.std.proofs.Common.{◌≡◌, ◌+◌, ◌≤◌, length, take, true}
-use Rattle.extent_list.specs.Apart.{StandApart}
-use Rattle.extent_list.specs.ExtentLists.{cut_all}
+use Rattle.extent_list.specs.{Apart.StandApart, ExtentLists.cut_all}
 use Rattle.extent_list.proofs.list.ExtentList.cut_one_by_one.Given as goal
 
 abbrev pub invariant-loop-extent : goal.invariant-loop-extent

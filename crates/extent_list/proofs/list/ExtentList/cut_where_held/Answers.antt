@@ -1,8 +1,5 @@
 use Rattle.std.proofs.Common.{subst, sym, ◌∙◌}
-use Rattle.extent_list.specs.Apart.{StandApart}
-use Rattle.extent_list.specs.Rooms.{Room}
-use Rattle.extent_list.proofs.ApartLists.{cut_apart}
-use Rattle.extent_list.proofs.Holding.{cut_nowhere}
+use Rattle.extent_list.{specs.Apart.StandApart, specs.Rooms.Room, proofs.ApartLists.cut_apart, proofs.Holding.cut_nowhere}
 use Rattle.extent_list.proofs.list.ExtentList.cut_where_held.Goals as goal
 
 pub returns-in-None-clause-cut : goal.returns-in-None-clause-cut

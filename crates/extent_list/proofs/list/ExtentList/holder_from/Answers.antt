@@ -1,7 +1,5 @@
 use Rattle.std.proofs.Common.{subst, sym, ap, ◌∙◌}
-use Rattle.extent_list.specs.Apart.{StandApart}
-use Rattle.extent_list.specs.ExtentLists.{holder_of}
-use Rattle.extent_list.proofs.ApartLists.{no_extent, only_holder}
+use Rattle.extent_list.{specs.Apart.StandApart, specs.ExtentLists.holder_of, proofs.ApartLists.no_extent, proofs.ApartLists.only_holder}
 use Rattle.extent_list.proofs.list.ExtentList.holder_from.Goals as goal
 
 pub returns-in-Some : goal.returns-in-Some

@@ -1,11 +1,8 @@
 use Rattle.std.proofs.Common.{◌≡◌, true, sym, ap, ◌∙◌, arith, rules, subst, ◌≤◌, ◌<◌, ◌-◌, ◌+◌, length, get_or, List}
 use Rattle.dcd_base.specs.declared.capacity.Extent.{Extent}
-use Rattle.extent_list.specs.Apart.{StandApart}
-use Rattle.extent_list.specs.Fitting.{IsOwned, area_of, fits_area}
-use Rattle.extent_list.specs.declared.placing.Area.{Area}
+use Rattle.extent_list.{proofs.FirstOwner.no_extent, proofs.FitFront.falls_more, proofs.FitFront.fits_placed, proofs.FitFront.front_fits, specs.Apart.StandApart}
+use Rattle.extent_list.specs.{Fitting.IsOwned, Fitting.area_of, Fitting.fits_area, declared.placing.Area.Area}
 use Rattle.media_map.specs.region_config.specs.Granules.{region_spec}
-use Rattle.extent_list.proofs.FirstOwner.{no_extent}
-use Rattle.extent_list.proofs.FitFront.{falls_more, fits_placed, front_fits}
 use Rattle.extent_list.proofs.lookup.Owners.fit_falling.Goals as goal
 
 pub loop-i-preserved : goal.loop-i-preserved

@@ -1,7 +1,5 @@
 use Rattle.std.proofs.Common.{sym, ap, ◌∙◌, position}
-use Rattle.extent_list.specs.ExtentLists.{lies_in}
-use Rattle.extent_list.proofs.FirstOwner.{no_extent}
-use Rattle.extent_list.proofs.Apart.{only_owner}
+use Rattle.extent_list.{specs.ExtentLists.lies_in, proofs.FirstOwner.no_extent, proofs.Apart.only_owner}
 use Rattle.extent_list.proofs.lookup.Owners.index_anywhere.Goals as goal
 
 pub returns-in-Some-clause-value : goal.returns-in-Some-clause-value

@@ -1,5 +1,4 @@
-use Rattle.granule_map.specs.StateLists.{is_free_at}
-use Rattle.granule_map.proofs.Stretches.{all_of_next}
+use Rattle.granule_map.{specs.StateLists.is_free_at, proofs.Stretches.all_of_next}
 use Rattle.granule_map.proofs.map.GranuleMap.are_free.Goals as goal
 
 pub returns : goal.returns

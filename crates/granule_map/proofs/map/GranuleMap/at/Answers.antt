@@ -1,10 +1,7 @@
 use Rattle.std.proofs.Common.{◌≡◌, ◌<◌, ◌∙◌, List, Some, get_or, length, ap, sym, subst, arith}
 use Rattle.std.specs.Prelude.{slice_get}
-use Rattle.dcd_base.specs.Words.{zero_tag}
-use Rattle.dcd_base.specs.declared.capacity.Tag.{Tag}
-use Rattle.granule_map.specs.StateLists.{States, told}
-use Rattle.granule_map.specs.declared.states.GranuleState.{GranuleState}
-use Rattle.granule_map.proofs.Kept.{item_read, state_got, states_long}
+use Rattle.dcd_base.specs.{Words.zero_tag, declared.capacity.Tag.Tag}
+use Rattle.granule_map.{specs.StateLists.States, specs.StateLists.told, specs.declared.states.GranuleState.GranuleState, proofs.Kept.item_read, proofs.Kept.state_got, proofs.Kept.states_long}
 use Rattle.granule_map.proofs.map.GranuleMap.at.Goals as goal
 
 pub returns : goal.returns

@@ -1,7 +1,6 @@
 use Rattle.std.proofs.Common.{◌<◌, ◌∙◌, true, false, length, sym, arith}
+use Rattle.granule_map.proofs.{Kept.counted_one, Kept.one_or_none, map.GranuleMap.count.Goals.then-is_same_state, map.GranuleMap.count.Goals.else-is_same_state}
 use Rattle.granule_map.specs.StateLists.{same_state}
-use Rattle.granule_map.proofs.Kept.{counted_one, one_or_none}
-use Rattle.granule_map.proofs.map.GranuleMap.count.Goals.{then-is_same_state, else-is_same_state}
 use Rattle.granule_map.proofs.map.GranuleMap.count.Goals as goal
 
 pub loop-granule-preserved : goal.loop-granule-preserved

@@ -1,5 +1,4 @@
-use Rattle.std.proofs.Common.{◌≡◌, ◌≤◌, take}
-use Rattle.std.specs.Prelude.{count_by}
+use Rattle.std.{proofs.Common.◌≡◌, proofs.Common.◌≤◌, proofs.Common.take, specs.Prelude.count_by}
 use Rattle.granule_map.specs.StateLists.{same_state}
 use Rattle.granule_map.proofs.map.GranuleMap.count.Given as goal
 

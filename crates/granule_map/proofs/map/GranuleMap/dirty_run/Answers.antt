@@ -1,5 +1,4 @@
-use Rattle.granule_map.specs.StateLists.{is_dirty_at}
-use Rattle.granule_map.proofs.Stretches.{run_of_next}
+use Rattle.granule_map.{specs.StateLists.is_dirty_at, proofs.Stretches.run_of_next}
 use Rattle.granule_map.proofs.map.GranuleMap.dirty_run.Goals as goal
 
 pub returns-clause-count : goal.returns-clause-count

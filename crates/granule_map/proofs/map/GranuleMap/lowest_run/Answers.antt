@@ -1,7 +1,5 @@
-use Rattle.std.proofs.Common.{◌≡◌, Some, None, sym, ◌∙◌, refl, rules}
-use Rattle.std.proofs.lemmas.Bool.{true≢false}
-use Rattle.granule_map.proofs.RunSteps.{below_from_none, none_from_below}
-use Rattle.granule_map.specs.Blocks.{block_count, is_block_free, lowest_free_run}
+use Rattle.std.proofs.{Common.◌≡◌, Common.Some, Common.None, Common.sym, Common.◌∙◌, Common.refl, Common.rules, lemmas.Bool.true≢false}
+use Rattle.granule_map.{proofs.RunSteps.below_from_none, proofs.RunSteps.none_from_below, specs.Blocks.block_count, specs.Blocks.is_block_free, specs.Blocks.lowest_free_run}
 use Rattle.granule_map.proofs.map.GranuleMap.lowest_run.Goals as goal
 
 pub returns-in-Some-clause-none : goal.returns-in-Some-clause-none

@@ -1,8 +1,6 @@
 use Rattle.std.proofs.Common.{◌≡◌, ◌∙◌, List, ℕ, replicate, ap, sym, subst, arith, rules}
-use Rattle.dcd_base.specs.Words.{zero_tag}
-use Rattle.dcd_base.specs.declared.capacity.Tag.{Tag}
-use Rattle.granule_map.specs.Told.{AreKept, states_of}
-use Rattle.granule_map.proofs.Kept.{all_free, free_kept}
+use Rattle.dcd_base.specs.{Words.zero_tag, declared.capacity.Tag.Tag}
+use Rattle.granule_map.{specs.Told.AreKept, specs.Told.states_of, proofs.Kept.all_free, proofs.Kept.free_kept}
 use Rattle.granule_map.proofs.map.GranuleMap.new.Goals as goal
 
 pub invariant_of-result : goal.invariant_of-result

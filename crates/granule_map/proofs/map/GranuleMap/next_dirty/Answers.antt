@@ -1,7 +1,5 @@
-use Rattle.std.proofs.Common.{◌-◌, ◌∙◌, sym, ap}
-use Rattle.std.specs.List.{find, range_with_len}
-use Rattle.granule_map.specs.StateLists.{is_dirty_at}
-use Rattle.granule_map.proofs.Stretches.{next_found, none_next}
+use Rattle.std.{proofs.Common.◌-◌, proofs.Common.◌∙◌, proofs.Common.sym, proofs.Common.ap, specs.List.find, specs.List.range_with_len}
+use Rattle.granule_map.{specs.StateLists.is_dirty_at, proofs.Stretches.next_found, proofs.Stretches.none_next}
 use Rattle.granule_map.proofs.map.GranuleMap.next_dirty.Goals as goal
 
 pub returns-then-dirty-end : goal.returns-then-dirty-end

@@ -1,7 +1,5 @@
 use Rattle.std.proofs.Common.{ap}
-use Rattle.granule_map.specs.StateLists.{States}
-use Rattle.granule_map.specs.Told.{states_of}
-use Rattle.granule_map.proofs.Marked.{dirty_next}
+use Rattle.granule_map.{specs.StateLists.States, specs.Told.states_of, proofs.Marked.dirty_next}
 use Rattle.granule_map.proofs.map.GranuleMap.next_dirty_below.Goals as goal
 
 pub returns : goal.returns

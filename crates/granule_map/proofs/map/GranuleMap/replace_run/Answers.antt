@@ -1,12 +1,8 @@
 use Rattle.std.proofs.Common.{◌≡◌, ◌+◌, ◌≤◌, ◌++◌, ◌∙◌, List, ℕ, ap, length, subst, sym, take, drop, arith, rules}
 use Rattle.std.proofs.Math.Seq.{take-append_seam}
 use Rattle.dcd_base.specs.declared.capacity.Tag.{Tag}
-use Rattle.granule_map.specs.StateLists.{States, mark_of, with_run}
-use Rattle.granule_map.specs.Told.{NoneBelow, states_of, tags_with, with_item}
-use Rattle.granule_map.specs.declared.states.GranuleState.{GranuleState}
-use Rattle.granule_map.proofs.Kept.{kept_by, length_by, states_by, states_long}
-use Rattle.granule_map.proofs.Marked.{dirty_counted, free_counted}
-use Rattle.granule_map.proofs.NoneFree.{none_after}
+use Rattle.granule_map.proofs.{Kept.kept_by, Kept.length_by, Kept.states_by, Kept.states_long, Marked.dirty_counted, Marked.free_counted, NoneFree.none_after}
+use Rattle.granule_map.specs.{StateLists.States, StateLists.mark_of, StateLists.with_run, Told.NoneBelow, Told.states_of, Told.tags_with, Told.with_item, declared.states.GranuleState.GranuleState}
 use Rattle.granule_map.proofs.map.GranuleMap.replace_run.Goals as goal
 
 pub invariant_of-self : goal.invariant_of-self

@@ -1,6 +1,5 @@
 use Rattle.std.proofs.Common.{◌≡◌, ◌∙◌, length, subst}
-use Rattle.granule_map.specs.Tables.{CellTable}
-use Rattle.granule_map.proofs.Flags.{flags_long}
+use Rattle.granule_map.{specs.Tables.CellTable, proofs.Flags.flags_long}
 use Rattle.granule_map.proofs.tables.GranuleTable.len.Goals as goal
 
 pub returns-clause-each : goal.returns-clause-each

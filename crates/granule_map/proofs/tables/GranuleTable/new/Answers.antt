@@ -1,6 +1,5 @@
 use Rattle.std.proofs.Common.{◌≡◌, ◌∙◌, ap, replicate, rules}
-use Rattle.granule_map.specs.Parts.{flags_in}
-use Rattle.granule_map.proofs.Flags.{no_flags}
+use Rattle.granule_map.{specs.Parts.flags_in, proofs.Flags.no_flags}
 use Rattle.granule_map.proofs.tables.GranuleTable.new.Goals as goal
 
 pub returns-clause-unclean : goal.returns-clause-unclean

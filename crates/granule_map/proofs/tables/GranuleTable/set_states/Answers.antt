@@ -1,10 +1,6 @@
 use Rattle.std.proofs.Common.{◌≡◌, ◌+◌, ◌≤◌, ◌∙◌, List, length, refl, subst, cond, ap, sym, arith, rules}
-use Rattle.granule_map.specs.StateLists.{is_free_state, is_dirty_state, with_run}
-use Rattle.granule_map.specs.declared.states.GranuleState.{GranuleState}
-use Rattle.granule_map.specs.Parts.{flags_in}
-use Rattle.granule_map.specs.Tables.{CellTable, IsChanged, given}
-use Rattle.granule_map.proofs.Counting.{recounts_dirty, recounts_free}
-use Rattle.granule_map.proofs.TableRanges.{states_changed}
+use Rattle.granule_map.{proofs.Counting.recounts_dirty, proofs.Counting.recounts_free, proofs.TableRanges.states_changed, specs.Parts.flags_in}
+use Rattle.granule_map.specs.{StateLists.is_free_state, StateLists.is_dirty_state, StateLists.with_run, Tables.CellTable, Tables.IsChanged, Tables.given, declared.states.GranuleState.GranuleState}
 use Rattle.granule_map.proofs.tables.GranuleTable.set_states.Goals as goal
 
 pub recounted-self-inside-requires-clause-counted : goal.recounted-self-inside-requires-clause-counted

@@ -1,10 +1,7 @@
 use Rattle.std.proofs.Common.{◌≡◌, ◌+◌, ◌≤◌, ◌∙◌, ◌++◌, take, drop, ℕ, List, length, refl, subst, sym, ap, arith, rules}
-use Rattle.std.proofs.Math.Seq.{take-append_seam}
-use Rattle.std.specs.Vec.{with_items}
-use Rattle.granule_map.specs.Parts.{flags_in, marked_unclean, with_part}
+use Rattle.std.{proofs.Math.Seq.take-append_seam, specs.Vec.with_items}
+use Rattle.granule_map.{proofs.Flags.flags_long, proofs.Flags.flags_with_part, proofs.TableRanges.flags_changed, specs.Parts.flags_in, specs.Parts.marked_unclean, specs.Parts.with_part}
 use Rattle.granule_map.specs.Tables.{CellTable, IsChanged}
-use Rattle.granule_map.proofs.Flags.{flags_long, flags_with_part}
-use Rattle.granule_map.proofs.TableRanges.{flags_changed}
 use Rattle.granule_map.proofs.tables.GranuleTable.set_unclean.Goals as goal
 
 pub returns-clause-changed : goal.returns-clause-changed

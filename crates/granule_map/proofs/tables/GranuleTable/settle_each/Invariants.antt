@@ -1,6 +1,5 @@
 use Rattle.std.proofs.Common.{◌-◌, ◌≤◌}
-use Rattle.granule_map.specs.Parts.{between}
-use Rattle.granule_map.specs.Tables.{IsChanged, settled}
+use Rattle.granule_map.specs.{Parts.between, Tables.IsChanged, Tables.settled}
 use Rattle.granule_map.proofs.tables.GranuleTable.settle_each.Given as goal
 
 abbrev pub invariant-loop-at : goal.invariant-loop-at

@@ -1,5 +1,4 @@
-use Rattle.std.proofs.Common.{◌<◌, length, rules}
-use Rattle.std.proofs.lemmas.Result.{on_err_weaker, on_ok_weaker}
+use Rattle.std.proofs.{Common.◌<◌, Common.length, Common.rules, lemmas.Result.on_err_weaker, lemmas.Result.on_ok_weaker}
 use Rattle.granule_mem.proofs.Steps.{word_after_store, words_kept}
 use Rattle.granule_mem.proofs.granule_words.GranuleWords.write.Goals as goal
 

@@ -1,6 +1,5 @@
 use Rattle.std.proofs.Common.{◌<◌, [], ap, ◌∙◌, cond, eqb, get_or, length, rules}
-use Rattle.granule_mem.proofs.Steps.{run_more, word_after_set}
-use Rattle.granule_mem.specs.Contents.{word_among, word_kept}
+use Rattle.granule_mem.{proofs.Steps.run_more, proofs.Steps.word_after_set, specs.Contents.word_among, specs.Contents.word_kept}
 use Rattle.granule_mem.proofs.granule_words.GranuleWords.zero.Goals as goal
 
 pub loop-granule-preserved : goal.loop-granule-preserved

@@ -1,5 +1,4 @@
-use Rattle.std.proofs.Common.{◌≡◌, ℕ, length, leb, ltb, cond}
-use Rattle.std.specs.Prelude.{◌&&◌}
+use Rattle.std.{proofs.Common.◌≡◌, proofs.Common.ℕ, proofs.Common.length, proofs.Common.leb, proofs.Common.ltb, proofs.Common.cond, specs.Prelude.◌&&◌}
 use Rattle.granule_mem.specs.Contents.{word_kept}
 use Rattle.granule_mem.proofs.granule_words.GranuleWords.zero.Given as goal
 

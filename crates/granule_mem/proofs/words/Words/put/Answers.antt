@@ -1,6 +1,5 @@
 use Rattle.std.proofs.Common.{◌≡◌, ◌∷◌, ◌++◌, [], None, rules}
-use Rattle.granule_mem.proofs.Few.{puts_at, puts_behind}
-use Rattle.granule_mem.specs.Words.{IsFirst, found}
+use Rattle.granule_mem.{proofs.Few.puts_at, proofs.Few.puts_behind, specs.Words.IsFirst, specs.Words.found}
 use Rattle.granule_mem.proofs.words.Words.put.Goals as goal
 
 pub returns-in-Some-clause-words : goal.returns-in-Some-clause-words

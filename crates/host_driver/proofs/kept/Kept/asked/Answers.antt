@@ -1,10 +1,6 @@
-use Rattle.std.proofs.Common.{ap, ◌∙◌, length, arith}
-use Rattle.std.specs.List.{list_all}
-use Rattle.std.proofs.lemmas.List.{length-take}
+use Rattle.std.{proofs.Common.ap, proofs.Common.◌∙◌, proofs.Common.length, proofs.Common.arith, specs.List.list_all, proofs.lemmas.List.length-take}
 use Rattle.host_payloads.specs.HostPayloads.{is_untagged}
-use Rattle.host_driver.specs.Driving.{given_by, taken_by}
-use Rattle.host_driver.specs.Keeping.{kept_in}
-use Rattle.host_driver.proofs.Listed.{bare_untagged}
+use Rattle.host_driver.{specs.Driving.given_by, specs.Driving.taken_by, specs.Keeping.kept_in, proofs.Listed.bare_untagged}
 use Rattle.host_driver.proofs.kept.Kept.asked.Goals as goal
 
 pub returns-in_ok-first_handles-in-Clear-clause-counts : goal.returns-in_ok-first_handles-in-Clear-clause-counts

@@ -1,6 +1,5 @@
 use Rattle.std.proofs.Common.{◌≡◌, ◌-◌, length}
-use Rattle.host_driver.specs.Driving.{gone_on}
-use Rattle.host_driver.specs.Keeping.{HasSpare, kept_in}
+use Rattle.host_driver.specs.{Driving.gone_on, Keeping.HasSpare, Keeping.kept_in}
 use Rattle.host_driver.proofs.kept.Kept.go_on.Given as goal
 
 -- What is left to do of the page is what there was to do.

@@ -1,6 +1,5 @@
 use Rattle.std.proofs.Common.{ap, arith, length, ◌∙◌}
-use Rattle.host_driver.specs.Driving.{Driven, gone_on, request_ended}
-use Rattle.host_driver.proofs.Going.{room_behind_request}
+use Rattle.host_driver.{specs.Driving.Driven, specs.Driving.gone_on, specs.Driving.request_ended, proofs.Going.room_behind_request}
 use Rattle.host_driver.proofs.kept.Kept.took_release.Goals as goal
 
 pub end_request-requires-clause-room : goal.end_request-requires-clause-room

@@ -1,6 +1,5 @@
 use Rattle.std.proofs.Common.{ap, arith, length, ◌∙◌}
-use Rattle.host_driver.specs.Driving.{Driven, gone_on, offer_ended}
-use Rattle.host_driver.proofs.Going.{room_behind_offer}
+use Rattle.host_driver.{specs.Driving.Driven, specs.Driving.gone_on, specs.Driving.offer_ended, proofs.Going.room_behind_offer}
 use Rattle.host_driver.proofs.kept.Kept.took_response.Goals as goal
 
 pub end_offer-requires-clause-room : goal.end_offer-requires-clause-room

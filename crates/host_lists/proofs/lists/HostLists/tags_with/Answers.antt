@@ -1,11 +1,7 @@
-use Rattle.std.proofs.Common.{◌≡◌, ◌++◌, ap, arith, length, length-append, sym, ◌∙◌}
-use Rattle.std.proofs.lemmas.List.{length-map}
+use Rattle.std.proofs.{Common.◌≡◌, Common.◌++◌, Common.ap, Common.arith, Common.length, Common.length-append, Common.sym, Common.◌∙◌, lemmas.List.length-map}
 use Rattle.extent_list.specs.HostLists.{Lists, extents_of_lists}
-use Rattle.offer_core.specs.declared.offer.Offer.{Offer}
-use Rattle.offer_core.specs.Offerings.{lists_of}
-use Rattle.host_lists.specs.Tags.{capped, extents_before, tag_count}
-use Rattle.host_lists.proofs.Offered.{extents_before_all, length_extents}
-use Rattle.host_lists.proofs.TagCounting.{tag_count_le}
+use Rattle.offer_core.specs.{declared.offer.Offer.Offer, Offerings.lists_of}
+use Rattle.host_lists.{specs.Tags.capped, specs.Tags.extents_before, specs.Tags.tag_count, proofs.Offered.extents_before_all, proofs.Offered.length_extents, proofs.TagCounting.tag_count_le}
 use Rattle.host_lists.proofs.lists.HostLists.tags_with.Goals as goal
 
 pub returns : goal.returns

@@ -1,6 +1,5 @@
 use Rattle.std.proofs.Common.{ap, ◌∙◌}
-use Rattle.kept_journal.specs.Lending.{first_entry}
-use Rattle.kept_journal.proofs.Pairs.{peek_first, peek_second}
+use Rattle.kept_journal.{specs.Lending.first_entry, proofs.Pairs.peek_first, proofs.Pairs.peek_second}
 use Rattle.kept_journal.proofs.both.BothLender.peek.Goals as goal
 
 pub returns-in-First : goal.returns-in-First

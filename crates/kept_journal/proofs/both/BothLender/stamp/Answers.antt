@@ -1,7 +1,6 @@
 use Rattle.std.proofs.Common.{ap, subst, ◌∙◌}
-use Rattle.kept_journal.specs.Lending.{first_stamp}
+use Rattle.kept_journal.{specs.Lending.first_stamp, proofs.Pairs.both_rise, proofs.Pairs.stamp_of_first, proofs.Pairs.stamp_of_second}
 use Rattle.journal_core.specs.Merging.{Rising}
-use Rattle.kept_journal.proofs.Pairs.{both_rise, stamp_of_first, stamp_of_second}
 use Rattle.kept_journal.proofs.both.BothLender.stamp.Goals as goal
 
 pub returns-in-First-clause-value : goal.returns-in-First-clause-value

@@ -1,6 +1,4 @@
-use Rattle.std.proofs.Common.{◌≡◌, ◌≤◌, ◌*◌, ◌-◌, ◌/◌, ◌^◌}
-use Rattle.std.specs.Int.{w64, to_le_bytes}
-use Rattle.std.specs.Int.Bits.{bit_xor}
+use Rattle.std.{proofs.Common.◌≡◌, proofs.Common.◌≤◌, proofs.Common.◌*◌, proofs.Common.◌-◌, proofs.Common.◌/◌, proofs.Common.◌^◌, specs.Int.w64, specs.Int.to_le_bytes, specs.Int.Bits.bit_xor}
 use Rattle.kept_journal.proofs.CoderChanges.{InChange}
 use Rattle.kept_journal.proofs.coding.Coder.push_changes.Given as goal
 

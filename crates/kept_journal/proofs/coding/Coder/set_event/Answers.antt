@@ -1,7 +1,5 @@
 use Rattle.std.proofs.Common.{◌≡◌, rules, refl, ◌%◌, ◌^◌}
-use Rattle.kept_journal.specs.Slots.{telling_what}
-use Rattle.kept_journal.proofs.CoderSteps.{codes_then}
-use Rattle.kept_journal.proofs.EventSlots.{event_back}
+use Rattle.kept_journal.{specs.Slots.telling_what, proofs.CoderSteps.codes_then, proofs.EventSlots.event_back}
 use Rattle.kept_journal.proofs.coding.Coder.set_event.Goals as goal
 
 pub returns-clause-slots : goal.returns-clause-slots

@@ -1,7 +1,5 @@
 use Rattle.std.proofs.Common.{◌≡◌, rules, ◌%◌, ◌^◌, refl}
-use Rattle.kept_journal.specs.Slots.{with_slot}
-use Rattle.kept_journal.specs.declared.slots.TheConstants.{LENGTH, START}
-use Rattle.kept_journal.proofs.CoderSteps.{codes_then}
+use Rattle.kept_journal.{specs.Slots.with_slot, specs.declared.slots.TheConstants.LENGTH, specs.declared.slots.TheConstants.START, proofs.CoderSteps.codes_then}
 use Rattle.kept_journal.proofs.coding.Coder.set_extent.Goals as goal
 
 pub returns-clause-slots : goal.returns-clause-slots

@@ -1,6 +1,5 @@
 use Rattle.std.proofs.Common.{rules}
-use Rattle.kept_journal.proofs.CoderSteps.{codes_then}
-use Rattle.kept_journal.proofs.Slotting.{small_bytes, tag_halves}
+use Rattle.kept_journal.proofs.{CoderSteps.codes_then, Slotting.small_bytes, Slotting.tag_halves}
 use Rattle.kept_journal.proofs.coding.Coder.set_tag.Goals as goal
 
 pub returns-clause-coded : goal.returns-clause-coded

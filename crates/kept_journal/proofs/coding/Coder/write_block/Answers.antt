@@ -1,9 +1,6 @@
 use Rattle.std.proofs.Common.{◌∙◌, ap}
-use Rattle.kept_journal.specs.Slots.{with_slot}
-use Rattle.kept_journal.specs.declared.slots.TheConstants.{LENGTH, BLOCK}
-use Rattle.kept_journal.specs.Tokens.{token_of}
-use Rattle.kept_journal.specs.declared.tokens.Token.{Token}
-use Rattle.kept_journal.proofs.CoderSteps.{codes_ended, codes_then}
+use Rattle.kept_journal.{proofs.CoderSteps.codes_ended, proofs.CoderSteps.codes_then, specs.Slots.with_slot, specs.Tokens.token_of}
+use Rattle.kept_journal.specs.declared.{slots.TheConstants.LENGTH, slots.TheConstants.BLOCK, tokens.Token.Token}
 use Rattle.kept_journal.proofs.coding.Coder.write_block.Goals as goal
 
 pub returns : goal.returns

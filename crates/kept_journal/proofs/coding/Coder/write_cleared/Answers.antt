@@ -1,9 +1,6 @@
 use Rattle.std.proofs.Common.{rules, ◌≡◌, ◌∙◌, ap, ◌%◌, ◌^◌}
-use Rattle.kept_journal.specs.Slots.{slots_in, telling_log, with_slot}
-use Rattle.kept_journal.specs.declared.slots.TheConstants.{COUNT, CLEARED}
-use Rattle.kept_journal.specs.Tokens.{token_of}
-use Rattle.kept_journal.specs.declared.tokens.Token.{Token}
-use Rattle.kept_journal.proofs.CoderSteps.{codes_ended, codes_then}
+use Rattle.kept_journal.{proofs.CoderSteps.codes_ended, proofs.CoderSteps.codes_then, specs.Slots.slots_in, specs.Slots.telling_log, specs.Slots.with_slot, specs.Tokens.token_of}
+use Rattle.kept_journal.specs.declared.{slots.TheConstants.COUNT, slots.TheConstants.CLEARED, tokens.Token.Token}
 use Rattle.kept_journal.proofs.coding.Coder.write_cleared.Goals as goal
 
 pub returns : goal.returns

@@ -1,8 +1,5 @@
-use Rattle.std.proofs.Common.{take}
-use Rattle.std.specs.Prelude.{flat_map}
-use Rattle.kept_journal.specs.Coding.{CodesTo}
-use Rattle.kept_journal.specs.Slots.{slots_in}
-use Rattle.kept_journal.specs.Tokens.{tokens_of}
+use Rattle.std.{proofs.Common.take, specs.Prelude.flat_map}
+use Rattle.kept_journal.specs.{Coding.CodesTo, Slots.slots_in, Tokens.tokens_of}
 use Rattle.kept_journal.proofs.coding.Coder.write_effects.Given as goal
 
 abbrev pub invariant-loop-effect : goal.invariant-loop-effect

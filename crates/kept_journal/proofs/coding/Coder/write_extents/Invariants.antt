@@ -1,7 +1,5 @@
 use Rattle.std.proofs.Common.{map, take}
-use Rattle.kept_journal.specs.Coding.{CodesTo}
-use Rattle.kept_journal.specs.Slots.{slots_in}
-use Rattle.kept_journal.specs.declared.tokens.Token.{Token}
+use Rattle.kept_journal.specs.{Coding.CodesTo, Slots.slots_in, declared.tokens.Token.Token}
 use Rattle.kept_journal.proofs.coding.Coder.write_extents.Given as goal
 
 abbrev pub invariant-loop-extent : goal.invariant-loop-extent

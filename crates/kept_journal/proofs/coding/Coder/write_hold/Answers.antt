@@ -1,10 +1,6 @@
 use Rattle.std.proofs.Common.{◌∙◌, ap}
-use Rattle.kept_journal.specs.Slots.{slots_in, telling_held}
-use Rattle.kept_journal.specs.declared.slots.TheConstants.{HOLD}
-use Rattle.kept_journal.specs.Tokens.{token_of}
-use Rattle.kept_journal.specs.declared.tokens.Token.{Token}
-use Rattle.kept_journal.proofs.CoderSteps.{codes_ended, codes_then}
-use Rattle.kept_journal.proofs.EventSlots.{held_back}
+use Rattle.kept_journal.{proofs.CoderSteps.codes_ended, proofs.CoderSteps.codes_then, proofs.EventSlots.held_back, specs.Slots.slots_in, specs.Slots.telling_held, specs.Tokens.token_of}
+use Rattle.kept_journal.specs.declared.{slots.TheConstants.HOLD, tokens.Token.Token}
 use Rattle.kept_journal.proofs.coding.Coder.write_hold.Goals as goal
 
 pub returns : goal.returns

@@ -1,9 +1,6 @@
 use Rattle.std.proofs.Common.{◌∙◌, ap}
-use Rattle.kept_journal.specs.Slots.{slots_in, telling_host, telling_run}
-use Rattle.kept_journal.specs.declared.slots.TheConstants.{LEAVE}
-use Rattle.kept_journal.specs.Tokens.{token_of}
-use Rattle.kept_journal.specs.declared.tokens.Token.{Token}
-use Rattle.kept_journal.proofs.CoderSteps.{codes_ended, codes_then}
+use Rattle.kept_journal.{proofs.CoderSteps.codes_ended, proofs.CoderSteps.codes_then, specs.Slots.slots_in, specs.Slots.telling_host, specs.Slots.telling_run, specs.Tokens.token_of}
+use Rattle.kept_journal.specs.declared.{slots.TheConstants.LEAVE, tokens.Token.Token}
 use Rattle.kept_journal.proofs.coding.Coder.write_leave.Goals as goal
 
 pub returns : goal.returns

@@ -1,9 +1,6 @@
 use Rattle.std.proofs.Common.{◌∙◌, ap}
-use Rattle.kept_journal.specs.Slots.{slots_in, telling_event, telling_log}
-use Rattle.kept_journal.specs.declared.slots.TheConstants.{LOGGED}
-use Rattle.kept_journal.specs.Tokens.{token_of}
-use Rattle.kept_journal.specs.declared.tokens.Token.{Token}
-use Rattle.kept_journal.proofs.CoderSteps.{codes_ended, codes_then}
+use Rattle.kept_journal.{proofs.CoderSteps.codes_ended, proofs.CoderSteps.codes_then, specs.Slots.slots_in, specs.Slots.telling_event, specs.Slots.telling_log, specs.Tokens.token_of}
+use Rattle.kept_journal.specs.declared.{slots.TheConstants.LOGGED, tokens.Token.Token}
 use Rattle.kept_journal.proofs.coding.Coder.write_logged.Goals as goal
 
 pub returns : goal.returns

@@ -1,8 +1,4 @@
-use Rattle.kept_journal.specs.Slots.{slots_in}
-use Rattle.kept_journal.specs.declared.slots.TheConstants.{MORE}
-use Rattle.kept_journal.specs.Tokens.{token_of}
-use Rattle.kept_journal.specs.declared.tokens.Token.{Token}
-use Rattle.kept_journal.proofs.CoderSteps.{codes_ended}
+use Rattle.kept_journal.{specs.Slots.slots_in, specs.declared.slots.TheConstants.MORE, specs.Tokens.token_of, specs.declared.tokens.Token.Token, proofs.CoderSteps.codes_ended}
 use Rattle.kept_journal.proofs.coding.Coder.write_more.Goals as goal
 
 pub returns : goal.returns

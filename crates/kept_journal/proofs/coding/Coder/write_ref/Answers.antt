@@ -1,10 +1,6 @@
 use Rattle.std.proofs.Common.{◌∙◌, ap}
-use Rattle.kept_journal.specs.Slots.{slots_in, telling_flag}
-use Rattle.kept_journal.specs.declared.slots.TheConstants.{REF}
-use Rattle.kept_journal.specs.Tokens.{token_of}
-use Rattle.kept_journal.specs.declared.tokens.Token.{Token}
-use Rattle.kept_journal.proofs.CoderSteps.{codes_ended, codes_then}
-use Rattle.kept_journal.proofs.EventSlots.{flag_back}
+use Rattle.kept_journal.{proofs.CoderSteps.codes_ended, proofs.CoderSteps.codes_then, proofs.EventSlots.flag_back, specs.Slots.slots_in, specs.Slots.telling_flag, specs.Tokens.token_of}
+use Rattle.kept_journal.specs.declared.{slots.TheConstants.REF, tokens.Token.Token}
 use Rattle.kept_journal.proofs.coding.Coder.write_ref.Goals as goal
 
 pub returns : goal.returns

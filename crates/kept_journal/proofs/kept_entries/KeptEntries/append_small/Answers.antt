@@ -1,11 +1,7 @@
 use Rattle.std.proofs.Common.{◌≡◌, ◌++◌, ◌∷◌, [], List, ap, drop, ◌∙◌}
-use Rattle.journal_core.specs.Entries.{next_entry}
-use Rattle.journal_core.specs.declared.entries.Entry.{Entry}
-use Rattle.journal_core.specs.declared.outcome.Effect.{Effect}
-use Rattle.kept_journal.specs.Keeping.{Keeping, asked_of, replied_of}
-use Rattle.kept_journal.specs.declared.kept_steps.Kept.{Kept}
-use Rattle.kept_journal.proofs.Keepings.{put_behind, widths_behind}
-use Rattle.kept_journal.proofs.StepBytes.{step_put, step_tells}
+use Rattle.journal_core.specs.{Entries.next_entry, declared.entries.Entry.Entry, declared.outcome.Effect.Effect}
+use Rattle.kept_journal.proofs.{Keepings.put_behind, Keepings.widths_behind, StepBytes.step_put, StepBytes.step_tells}
+use Rattle.kept_journal.specs.{Keeping.Keeping, Keeping.asked_of, Keeping.replied_of, declared.kept_steps.Kept.Kept}
 use Rattle.kept_journal.proofs.kept_entries.KeptEntries.append_small.Goals as goal
 
 pub invariant_of-self : goal.invariant_of-self

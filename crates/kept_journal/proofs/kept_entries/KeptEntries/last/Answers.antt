@@ -1,6 +1,6 @@
 use Rattle.std.proofs.Common.{◌-◌, ◌+◌, Some, ap, arith, drop, length, sym, ◌∙◌}
-use Rattle.kept_journal.specs.Keeping.{Keeping, kept_entry, width_of}
 use Rattle.kept_journal.proofs.Keepings.{is_last, last_within, none_last, some_last}
+use Rattle.kept_journal.specs.Keeping.{Keeping, kept_entry, width_of}
 use Rattle.kept_journal.proofs.kept_entries.KeptEntries.last.Goals as goal
 
 pub overflow_sub-bytes : goal.overflow_sub-bytes

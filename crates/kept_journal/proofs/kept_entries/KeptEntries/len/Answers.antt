@@ -1,6 +1,5 @@
 use Rattle.std.proofs.Common.{ap, length, sym, ◌∙◌}
-use Rattle.kept_journal.specs.Keeping.{Keeping}
-use Rattle.kept_journal.proofs.Keepings.{entries_of-length}
+use Rattle.kept_journal.{specs.Keeping.Keeping, proofs.Keepings.entries_of-length}
 use Rattle.kept_journal.proofs.kept_entries.KeptEntries.len.Goals as goal
 
 pub returns-clause-value : goal.returns-clause-value

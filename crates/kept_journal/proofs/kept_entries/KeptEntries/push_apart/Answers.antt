@@ -1,7 +1,5 @@
 use Rattle.std.proofs.Common.{[], ap, append-nil, refl, sym}
-use Rattle.kept_journal.specs.Keeping.{Keeping}
-use Rattle.kept_journal.specs.declared.kept_steps.Kept.{Kept}
-use Rattle.kept_journal.proofs.Keepings.{put_behind, widths_behind}
+use Rattle.kept_journal.{specs.Keeping.Keeping, specs.declared.kept_steps.Kept.Kept, proofs.Keepings.put_behind, proofs.Keepings.widths_behind}
 use Rattle.kept_journal.proofs.kept_entries.KeptEntries.push_apart.Goals as goal
 
 pub invariant_of-self : goal.invariant_of-self

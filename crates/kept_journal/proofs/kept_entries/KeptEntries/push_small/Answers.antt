@@ -1,7 +1,6 @@
 use Rattle.std.proofs.Common.{subst}
 use Rattle.journal_core.specs.declared.entries.Entry.{Entry}
-use Rattle.kept_journal.specs.Keeping.{PutOrNot}
-use Rattle.kept_journal.proofs.Keepings.{is_next}
+use Rattle.kept_journal.{specs.Keeping.PutOrNot, proofs.Keepings.is_next}
 use Rattle.kept_journal.proofs.kept_entries.KeptEntries.push_small.Goals as goal
 
 pub returns-clause-put : goal.returns-clause-put

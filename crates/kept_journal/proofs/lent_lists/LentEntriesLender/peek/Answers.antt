@@ -1,7 +1,5 @@
 use Rattle.std.proofs.Common.{Some, ap, sym, take, ◌+◌, ◌∙◌}
-use Rattle.kept_journal.specs.Keeping.{kept_entry}
-use Rattle.kept_journal.specs.Lending.{first_entry}
-use Rattle.kept_journal.proofs.Keepings.{kept_first, none_kept}
+use Rattle.kept_journal.{specs.Keeping.kept_entry, specs.Lending.first_entry, proofs.Keepings.kept_first, proofs.Keepings.none_kept}
 use Rattle.kept_journal.proofs.lent_lists.LentEntriesLender.peek.Goals as goal
 
 pub returns-in-Some : goal.returns-in-Some

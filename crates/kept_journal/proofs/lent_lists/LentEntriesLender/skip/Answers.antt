@@ -1,7 +1,5 @@
 use Rattle.std.proofs.Common.{ap, drop, length, subst, sym, ◌+◌, ◌∙◌}
-use Rattle.kept_journal.specs.Keeping.{CanBeLent, entries_of}
-use Rattle.kept_journal.proofs.Keepings.{kept_first, lent_on, none_kept}
-use Rattle.kept_journal.proofs.Lists.{none_left}
+use Rattle.kept_journal.{specs.Keeping.CanBeLent, specs.Keeping.entries_of, proofs.Keepings.kept_first, proofs.Keepings.lent_on, proofs.Keepings.none_kept, proofs.Lists.none_left}
 use Rattle.kept_journal.proofs.lent_lists.LentEntriesLender.skip.Goals as goal
 
 pub invariant_of-self : goal.invariant_of-self

@@ -1,7 +1,5 @@
 use Rattle.std.proofs.Common.{Some, ap, sym, take, ◌∙◌}
-use Rattle.kept_journal.specs.Keeping.{width_of}
-use Rattle.kept_journal.specs.Lending.{first_stamp}
-use Rattle.kept_journal.proofs.Keepings.{kept_first, none_kept}
+use Rattle.kept_journal.{specs.Keeping.width_of, specs.Lending.first_stamp, proofs.Keepings.kept_first, proofs.Keepings.none_kept}
 use Rattle.kept_journal.proofs.lent_lists.LentEntriesLender.stamp.Goals as goal
 
 pub returns-in-Some-clause-value : goal.returns-in-Some-clause-value

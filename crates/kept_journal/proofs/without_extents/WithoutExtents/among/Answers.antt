@@ -1,9 +1,5 @@
-use Rattle.std.proofs.Common.{List, ◌++◌, ap, append-nil, ◌∙◌}
-use Rattle.std.specs.Prelude.{filter_map}
-use Rattle.kept_journal.specs.Slots.{no_slots}
-use Rattle.kept_journal.specs.Tokens.{effect_alone, without_extents}
-use Rattle.kept_journal.specs.declared.tokens.Token.{Token}
-use Rattle.kept_journal.proofs.CoderSteps.{nothing_told}
+use Rattle.std.{proofs.Common.List, proofs.Common.◌++◌, proofs.Common.ap, proofs.Common.append-nil, proofs.Common.◌∙◌, specs.Prelude.filter_map}
+use Rattle.kept_journal.{specs.Slots.no_slots, specs.Tokens.effect_alone, specs.Tokens.without_extents, specs.declared.tokens.Token.Token, proofs.CoderSteps.nothing_told}
 use Rattle.kept_journal.proofs.without_extents.WithoutExtents.among.Goals as goal
 
 pub returns : goal.returns

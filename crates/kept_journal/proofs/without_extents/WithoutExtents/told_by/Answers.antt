@@ -1,8 +1,5 @@
-use Rattle.std.proofs.Common.{[], None, ap, sym, ◌∙◌}
-use Rattle.std.specs.Prelude.{filter_map}
-use Rattle.kept_journal.specs.Slots.{no_slots}
-use Rattle.kept_journal.specs.Tokens.{effect_alone, tokens_in}
-use Rattle.kept_journal.proofs.Gathered.{alone_back}
+use Rattle.std.{proofs.Common.[], proofs.Common.None, proofs.Common.ap, proofs.Common.sym, proofs.Common.◌∙◌, specs.Prelude.filter_map}
+use Rattle.kept_journal.{specs.Slots.no_slots, specs.Tokens.effect_alone, specs.Tokens.tokens_in, proofs.Gathered.alone_back}
 use Rattle.kept_journal.proofs.without_extents.WithoutExtents.told_by.Goals as goal
 
 pub returns : goal.returns

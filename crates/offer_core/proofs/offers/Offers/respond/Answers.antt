@@ -1,9 +1,5 @@
-use Rattle.std.proofs.Common.{◌≡◌, Some, None, sym, ◌∙◌, rules}
-use Rattle.std.proofs.lemmas.Option.{none-some}
-use Rattle.offer_core.proofs.Completeness.{in_order_breaks_nothing}
-use Rattle.offer_core.proofs.NoOffer.{nothing_listed}
-use Rattle.offer_core.specs.Offerings.{lists_of}
-use Rattle.offer_core.specs.Responses.{respond_rule}
+use Rattle.std.proofs.{Common.◌≡◌, Common.Some, Common.None, Common.sym, Common.◌∙◌, Common.rules, lemmas.Option.none-some}
+use Rattle.offer_core.{proofs.Completeness.in_order_breaks_nothing, proofs.NoOffer.nothing_listed, specs.Offerings.lists_of, specs.Responses.respond_rule}
 use Rattle.offer_core.proofs.offers.Offers.respond.Goals as goal
 
 pub answer-requires : goal.answer-requires

@@ -1,5 +1,4 @@
-use Rattle.std.proofs.Common.{length, ◌∙◌}
-use Rattle.std.specs.Prelude.{option_map}
+use Rattle.std.{proofs.Common.length, proofs.Common.◌∙◌, specs.Prelude.option_map}
 use Rattle.dcd_base.specs.Words.{◌or◌}
 use Rattle.plan_rules.specs.declared.faults.PlanFault.{PlanFault}
 use Rattle.pool_planner.proofs.Taking.{takes_one}

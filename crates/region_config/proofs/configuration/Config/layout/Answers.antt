@@ -1,6 +1,5 @@
 use Rattle.std.proofs.Common.{◌≡◌, None, subst}
-use Rattle.region_config.specs.Setups.{config_fault}
-use Rattle.region_config.proofs.Faultless.{sound}
+use Rattle.region_config.{specs.Setups.config_fault, proofs.Faultless.sound}
 use Rattle.region_config.proofs.configuration.Config.layout.Goals as goal
 
 pub returns-clause-sound : goal.returns-clause-sound

@@ -1,9 +1,5 @@
-use Rattle.std.proofs.Common.{◌≡◌, ◌%◌, ◌/◌, ap, arith, ◌∙◌}
-use Rattle.std.proofs.Math.Facts.{Fits-of_lt}
-use Rattle.std.proofs.Math.Nat.{mul-mod_left}
-use Rattle.region_config.specs.Granules.{region_spec}
-use Rattle.region_config.proofs.Faultless.{granules_within, some_granules}
-use Rattle.region_config.proofs.WholeBlocks.{few_in_block, whole_blocks}
+use Rattle.std.proofs.{Common.◌≡◌, Common.◌%◌, Common.◌/◌, Common.ap, Common.arith, Common.◌∙◌, Math.Facts.Fits-of_lt, Math.Nat.mul-mod_left}
+use Rattle.region_config.{specs.Granules.region_spec, proofs.Faultless.granules_within, proofs.Faultless.some_granules, proofs.WholeBlocks.few_in_block, proofs.WholeBlocks.whole_blocks}
 use Rattle.region_config.proofs.configuration.Config.per_block.Goals as goal
 
 pub returns-clause-value : goal.returns-clause-value

@@ -1,7 +1,5 @@
 use Rattle.std.proofs.Common.{sym}
-use Rattle.region_config.specs.declared.faults.ConfigFault.{ConfigFault}
-use Rattle.region_config.specs.Setups.{bad_base, each_region, faults}
-use Rattle.region_config.proofs.Searches.{first_found}
+use Rattle.region_config.{specs.declared.faults.ConfigFault.ConfigFault, specs.Setups.bad_base, specs.Setups.each_region, specs.Setups.faults, proofs.Searches.first_found}
 use Rattle.region_config.proofs.layout.Layout.base_fault.Goals as goal
 
 pub returns-in-Some : goal.returns-in-Some

@@ -1,7 +1,5 @@
 use Rattle.std.proofs.Common.{◌∙◌, sym}
-use Rattle.region_config.specs.declared.faults.ConfigFault.{ConfigFault}
-use Rattle.region_config.specs.Setups.{bad_base}
-use Rattle.region_config.proofs.Searches.{found}
+use Rattle.region_config.{specs.declared.faults.ConfigFault.ConfigFault, specs.Setups.bad_base, proofs.Searches.found}
 use Rattle.region_config.proofs.layout.Layout.base_fault_of.Goals as goal
 
 pub returns-then-has_bad_base : goal.returns-then-has_bad_base

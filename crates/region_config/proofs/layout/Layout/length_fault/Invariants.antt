@@ -1,7 +1,5 @@
 use Rattle.std.proofs.Common.{◌≡◌, None}
-use Rattle.region_config.specs.declared.faults.ConfigFault.{ConfigFault}
-use Rattle.region_config.specs.Granules.{region_spec}
-use Rattle.region_config.specs.Setups.{bad_length, faults, first_below}
+use Rattle.region_config.specs.{declared.faults.ConfigFault.ConfigFault, Granules.region_spec, Setups.bad_length, Setups.faults, Setups.first_below}
 use Rattle.region_config.proofs.layout.Layout.length_fault.Given as goal
 
 abbrev pub invariant-loop-region : goal.invariant-loop-region

@@ -1,6 +1,5 @@
 use Rattle.std.proofs.Common.{◌≡◌, None}
-use Rattle.region_config.specs.declared.faults.ConfigFault.{ConfigFault}
-use Rattle.region_config.specs.Setups.{bad_order, each_region, faults, first_below}
+use Rattle.region_config.specs.{declared.faults.ConfigFault.ConfigFault, Setups.bad_order, Setups.each_region, Setups.faults, Setups.first_below}
 use Rattle.region_config.proofs.layout.Layout.order_fault.Given as goal
 
 abbrev pub invariant-loop-host : goal.invariant-loop-host

@@ -1,7 +1,5 @@
 use Rattle.std.proofs.Common.{◌∙◌, sym}
-use Rattle.region_config.specs.declared.faults.ConfigFault.{ConfigFault}
-use Rattle.region_config.specs.Setups.{bad_order}
-use Rattle.region_config.proofs.Searches.{found, none_more}
+use Rattle.region_config.{specs.declared.faults.ConfigFault.ConfigFault, specs.Setups.bad_order, proofs.Searches.found, proofs.Searches.none_more}
 use Rattle.region_config.proofs.layout.Layout.order_fault_of.Goals as goal
 
 pub returns-then-has_bad_order : goal.returns-then-has_bad_order

@@ -1,8 +1,5 @@
 use Rattle.std.proofs.Common.{◌∙◌, sym}
-use Rattle.region_config.specs.declared.faults.ConfigFault.{ConfigFault}
-use Rattle.region_config.specs.Granules.{region_spec}
-use Rattle.region_config.specs.Setups.{bad_sizes}
-use Rattle.region_config.proofs.Searches.{found}
+use Rattle.region_config.{specs.declared.faults.ConfigFault.ConfigFault, specs.Granules.region_spec, specs.Setups.bad_sizes, proofs.Searches.found}
 use Rattle.region_config.proofs.layout.Layout.sizes_fault.Goals as goal
 
 pub returns-then-has_bad_sizes : goal.returns-then-has_bad_sizes

@@ -1,7 +1,5 @@
 use Rattle.std.proofs.Common.{◌≡◌, None}
-use Rattle.region_config.specs.declared.faults.ConfigFault.{ConfigFault}
-use Rattle.region_config.specs.Granules.{region_spec}
-use Rattle.region_config.specs.Setups.{bad_sizes, faults, first_below}
+use Rattle.region_config.specs.{declared.faults.ConfigFault.ConfigFault, Granules.region_spec, Setups.bad_sizes, Setups.faults, Setups.first_below}
 use Rattle.region_config.proofs.layout.Layout.sizes_fault.Given as goal
 
 abbrev pub invariant-loop-region : goal.invariant-loop-region

@@ -1,5 +1,4 @@
-use Rattle.std.proofs.Common.{sym, ◌∙◌, arith}
-use Rattle.std.proofs.lemmas.Nat.{one_shl, pow_pos}
+use Rattle.std.proofs.{Common.sym, Common.◌∙◌, Common.arith, lemmas.Nat.one_shl, lemmas.Nat.pow_pos}
 use Rattle.region_config.proofs.Powers.{largest_is}
 use Rattle.region_config.proofs.region_spec.RegionSpec.largest_size.Goals as goal
 

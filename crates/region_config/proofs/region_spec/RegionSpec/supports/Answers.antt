@@ -1,6 +1,4 @@
-use Rattle.std.proofs.Common.{◌≡◌, true, false, sym, ◌∙◌}
-use Rattle.std.specs.Int.{is_power_of_two}
-use Rattle.std.proofs.lemmas.Bool.Decides.{same_from_decides}
+use Rattle.std.{proofs.Common.◌≡◌, proofs.Common.true, proofs.Common.false, proofs.Common.sym, proofs.Common.◌∙◌, specs.Int.is_power_of_two, proofs.lemmas.Bool.Decides.same_from_decides}
 use Rattle.region_config.proofs.Powers.{supported, supported_is}
 use Rattle.region_config.proofs.region_spec.RegionSpec.supports.Goals as goal
 

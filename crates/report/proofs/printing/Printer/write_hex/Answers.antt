@@ -1,5 +1,4 @@
-use Rattle.std.proofs.Common.{[], ◌++◌, rules, append_assoc, ap, sym, ◌∙◌}
-use Rattle.std.specs.Slice.Iter.{chunks_rest}
+use Rattle.std.{proofs.Common.[], proofs.Common.◌++◌, proofs.Common.rules, proofs.Common.append_assoc, proofs.Common.ap, proofs.Common.sym, proofs.Common.◌∙◌, specs.Slice.Iter.chunks_rest}
 use Rattle.hex.specs.Hex.{encode_with}
 use Rattle.report.proofs.Parts.{digits_more, prints_nothing}
 use Rattle.report.proofs.printing.Printer.write_hex.Goals as goal

@@ -1,5 +1,4 @@
-use Rattle.std.proofs.Common.{◌≡◌, ◌++◌, ℕ, List}
-use Rattle.std.specs.Slice.Iter.{chunks_rest, chunks_size}
+use Rattle.std.{proofs.Common.◌≡◌, proofs.Common.◌++◌, proofs.Common.ℕ, proofs.Common.List, specs.Slice.Iter.chunks_rest, specs.Slice.Iter.chunks_size}
 use Rattle.hex.specs.Hex.{encode_lower}
 use Rattle.report.specs.Printing.{Prints}
 use Rattle.report.proofs.printing.Printer.write_hex.Given as goal

@@ -1,7 +1,6 @@
 use Rattle.std.proofs.Common.{◌≢◌, ◌<◌, ℕ, sym, ap, ◌∙◌, subst}
-use Rattle.ruled_cells.specs.Turning.{IsIn}
-use Rattle.ruled_cells.specs.Seats.{seat_number, seat_view}
 use Rattle.ruled_cells.proofs.ClosingSteps.{alone, values_are, closed_rests, closed_accounts, closed_no_others}
+use Rattle.ruled_cells.specs.{Seats.seat_number, Seats.seat_view, Turning.IsIn}
 use Rattle.ruled_cells.proofs.cells.Cells.close_into.Goals as goal
 
 pub close-requires-clause-alone : goal.close-requires-clause-alone

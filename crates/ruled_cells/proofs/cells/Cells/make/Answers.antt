@@ -1,10 +1,7 @@
 use Rattle.std.proofs.Common.{◌≡◌, ℕ, length, refl, sym, ap, ◌∙◌, rules}
 use lib.ListN.{get_elem?}
-use Rattle.ruled_cells.specs.Reads.{about_of}
-use Rattle.ruled_cells.specs.Ruling.{names}
-use Rattle.ruled_cells.specs.Turning.{NoTurn}
-use Rattle.ruled_cells.proofs.Opening.{opens_counted, count_is}
-use Rattle.ruled_cells.proofs.MakingSteps.{opener_fills, all_new, first_seat}
+use Rattle.ruled_cells.{proofs.MakingSteps.opener_fills, proofs.MakingSteps.all_new, proofs.MakingSteps.first_seat, proofs.Opening.opens_counted, proofs.Opening.count_is, specs.Reads.about_of}
+use Rattle.ruled_cells.specs.{Ruling.names, Turning.NoTurn}
 use Rattle.ruled_cells.proofs.cells.Cells.make.Goals as goal
 
 pub open-requires-clause-rule : goal.open-requires-clause-rule

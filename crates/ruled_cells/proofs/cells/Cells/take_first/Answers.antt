@@ -1,5 +1,4 @@
-use Rattle.ruled_cells.proofs.WholeSteps.{takes_first}
-use Rattle.ruled_cells.proofs.CallSteps.{told_in_the_end}
+use Rattle.ruled_cells.proofs.{WholeSteps.takes_first, CallSteps.told_in_the_end}
 use Rattle.ruled_cells.proofs.cells.Cells.take_first.Goals as goal
 
 pub take-kept-requires-clause-rule : goal.take-kept-requires-clause-rule

@@ -1,6 +1,5 @@
 use Rattle.std.proofs.Common.{arith}
-use Rattle.ruled_cells.proofs.TurnSeats.{joins}
-use Rattle.ruled_cells.proofs.TurnsApart.{joins_apart}
+use Rattle.ruled_cells.proofs.{TurnSeats.joins, TurnsApart.joins_apart}
 use Rattle.ruled_cells.proofs.turns.seats.absorb.Goals as goal
 
 pub join_seat-requires : goal.join_seat-requires

@@ -1,6 +1,5 @@
 use Rattle.std.proofs.Common.{arith}
-use Rattle.ruled_cells.proofs.TurnSeats.{splits}
-use Rattle.ruled_cells.proofs.TurnsApart.{splits_apart}
+use Rattle.ruled_cells.proofs.{TurnSeats.splits, TurnsApart.splits_apart}
 use Rattle.ruled_cells.proofs.turns.seats.enroll.Goals as goal
 
 pub split_seat-requires : goal.split_seat-requires

@@ -2,9 +2,7 @@ use Rattle.std.proofs.Common.{eqb, ◌+◌, arith, subst}
 use mathlib.Core.Option.{none}
 use prog.Atomic.{either}
 use Rattle.atomic_table.specs.Table.{step}
-use Rattle.ruled_cells.specs.Turning.{tried}
-use Rattle.ruled_cells.proofs.TurnPlays.{tries}
-use Rattle.ruled_cells.proofs.TurnsApart.{allows_apart, in_row_at}
+use Rattle.ruled_cells.{specs.Turning.tried, proofs.TurnPlays.tries, proofs.TurnsApart.allows_apart, proofs.TurnsApart.in_row_at}
 use Rattle.ruled_cells.proofs.turns.steps.attempt.Goals as goal
 
 pub compare_exchange-requires : goal.compare_exchange-requires

@@ -1,10 +1,8 @@
 use Rattle.std.proofs.Common.{arith, ap, sym, subst, ◌∙◌}
 use mathlib.Core.Option.{none}
 use Rattle.atomic_table.specs.Table.{step}
+use Rattle.ruled_cells.proofs.{TurnCalls.filled_moves, TurnCalls.given_is, TurnPlays.gives_back, TurnsApart.allows_apart, TurnsApart.in_row_at}
 use Rattle.ruled_cells.specs.Turning.{HasTurn, GivesTurn, given_back}
-use Rattle.ruled_cells.proofs.TurnPlays.{gives_back}
-use Rattle.ruled_cells.proofs.TurnsApart.{allows_apart, in_row_at}
-use Rattle.ruled_cells.proofs.TurnCalls.{filled_moves, given_is}
 use Rattle.ruled_cells.proofs.turns.steps.give.Goals as goal
 
 pub store-requires : goal.store-requires

@@ -1,10 +1,7 @@
 use Rattle.std.proofs.Common.{arith, ◌∙◌}
 use mathlib.Core.Option.{none}
 use Rattle.atomic_table.specs.Table.{step}
-use Rattle.ruled_cells.specs.Turning.{laid_back}
-use Rattle.ruled_cells.proofs.TurnPlays.{lays}
-use Rattle.ruled_cells.proofs.TurnsApart.{allows_apart}
-use Rattle.ruled_cells.proofs.TurnCalls.{out, moves_on}
+use Rattle.ruled_cells.{specs.Turning.laid_back, proofs.TurnPlays.lays, proofs.TurnsApart.allows_apart, proofs.TurnCalls.out, proofs.TurnCalls.moves_on}
 use Rattle.ruled_cells.proofs.turns.steps.lift.Goals as goal
 
 pub exchange-requires : goal.exchange-requires

@@ -1,9 +1,7 @@
 use Rattle.std.proofs.Common.{◌*◌, arith, ap, ◌∙◌}
 use mathlib.Core.Option.{none}
 use Rattle.atomic_table.specs.Table.{step}
-use Rattle.ruled_cells.specs.Turning.{marks_seat}
-use Rattle.ruled_cells.proofs.TurnPlays.{marks}
-use Rattle.ruled_cells.proofs.TurnsApart.{allows_apart}
+use Rattle.ruled_cells.{specs.Turning.marks_seat, proofs.TurnPlays.marks, proofs.TurnsApart.allows_apart}
 use Rattle.ruled_cells.proofs.turns.steps.mark.Goals as goal
 
 pub store-requires : goal.store-requires

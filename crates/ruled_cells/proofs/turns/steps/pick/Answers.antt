@@ -1,9 +1,7 @@
 use Rattle.std.proofs.Common.{arith, subst}
 use mathlib.Core.Option.{none}
 use Rattle.atomic_table.specs.Table.{step}
-use Rattle.ruled_cells.specs.Turning.{picked_up}
-use Rattle.ruled_cells.proofs.TurnPlays.{picks}
-use Rattle.ruled_cells.proofs.TurnsApart.{allows_apart, in_row_at}
+use Rattle.ruled_cells.{specs.Turning.picked_up, proofs.TurnPlays.picks, proofs.TurnsApart.allows_apart, proofs.TurnsApart.in_row_at}
 use Rattle.ruled_cells.proofs.turns.steps.pick.Goals as goal
 
 pub load-requires : goal.load-requires

@@ -1,6 +1,5 @@
 use Rattle.std.proofs.Common.{refl, ◌∙◌}
-use Rattle.ruled_cells.specs.Turning.{NoTurn, TakesTurn}
-use Rattle.ruled_cells.proofs.TurnCalls.{same_start, same_rests, same_by}
+use Rattle.ruled_cells.{specs.Turning.NoTurn, specs.Turning.TakesTurn, proofs.TurnCalls.same_start, proofs.TurnCalls.same_rests, proofs.TurnCalls.same_by}
 use Rattle.ruled_cells.proofs.turns.steps.take.Goals as goal
 
 pub loop-init : goal.loop-init

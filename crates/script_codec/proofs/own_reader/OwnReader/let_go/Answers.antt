@@ -1,5 +1,4 @@
-use Rattle.std.proofs.Common.{◌∙◌, ap}
-use Rattle.std.specs.Prelude.{drop}
+use Rattle.std.{proofs.Common.◌∙◌, proofs.Common.ap, specs.Prelude.drop}
 use Rattle.script_codec.proofs.Moves.{let_go_same}
 use Rattle.script_codec.proofs.own_reader.OwnReader.let_go.Goals as goal
 

@@ -1,7 +1,5 @@
 use Rattle.std.proofs.Common.{subst, sym}
-use Rattle.script_codec.specs.LineByLine.{Begins}
-use Rattle.script_codec.specs.Lines.{lines_from}
-use Rattle.script_codec.specs.Reading.{most_lines}
+use Rattle.script_codec.specs.{LineByLine.Begins, Lines.lines_from, Reading.most_lines}
 use Rattle.script_codec.proofs.reader.Reader.begin.Goals as goal
 
 pub returns : goal.returns

@@ -1,6 +1,5 @@
 use Rattle.std.proofs.Common.{◌<◌, ◌++◌, ap, ◌∙◌, arith}
-use Rattle.script_gen.specs.Drawing.{draws_after, round_by}
-use Rattle.script_gen.proofs.RoundSteps.{next_round}
+use Rattle.script_gen.{specs.Drawing.draws_after, specs.Drawing.round_by, proofs.RoundSteps.next_round}
 use Rattle.script_gen.proofs.by_rounds.Rounds.next.Goals as goal
 
 pub returns-clause-next : goal.returns-clause-next

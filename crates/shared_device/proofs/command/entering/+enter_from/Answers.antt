@@ -1,9 +1,8 @@
 use Rattle.std.proofs.Common.{◌+◌, ◌≤◌, rules, set, suc, None, arith, ap, sym, subst, ◌∙◌}
 use lib.ListN.{get_elem?}
 use Rattle.block_shard.specs.ruled_cells.specs.Seats.{HasCell, seat_view, turns_of}
-use Rattle.shared_device.specs.Entering.{HasNoted, HasTouched}
 use Rattle.shared_device.proofs.EnteringSteps.{may_after, may_give, noted_more, noted_till, still_of, touched_more, touched_till}
-use Rattle.shared_device.proofs.TurnsBack.{set_back}
+use Rattle.shared_device.{proofs.TurnsBack.set_back, specs.Entering.HasNoted, specs.Entering.HasTouched}
 use Rattle.shared_device.proofs.command.entering.+enter_from.Goals as goal
 
 pub note-requires-clause-touched : goal.note-requires-clause-touched

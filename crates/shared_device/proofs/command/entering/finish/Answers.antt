@@ -1,6 +1,5 @@
 use Rattle.std.proofs.Common.{arith}
-use Rattle.shared_device.proofs.EnteringSteps.{bare_after}
-use Rattle.shared_device.proofs.Turns.{same_twice}
+use Rattle.shared_device.proofs.{EnteringSteps.bare_after, Turns.same_twice}
 use Rattle.shared_device.proofs.command.entering.finish.Goals as goal
 
 pub returns-clause-seat : goal.returns-clause-seat

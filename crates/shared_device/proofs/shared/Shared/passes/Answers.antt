@@ -1,9 +1,6 @@
-use Rattle.std.proofs.Common.{◌≡◌, ◌+◌, length, ap, ◌∙◌, subst, arith}
-use Rattle.std.proofs.lemmas.List.{length_push}
-use Rattle.block_shard.specs.ruled_cells.proofs.ClosingSteps.{at_end, in_front}
-use Rattle.block_shard.specs.ruled_cells.specs.Calls.{IsNew}
-use Rattle.shared_device.specs.Passing.{IsNewPass}
-use Rattle.shared_device.proofs.Fresh.{each_led}
+use Rattle.std.proofs.{Common.◌≡◌, Common.◌+◌, Common.length, Common.ap, Common.◌∙◌, Common.subst, Common.arith, lemmas.List.length_push}
+use Rattle.block_shard.specs.ruled_cells.{proofs.ClosingSteps.at_end, proofs.ClosingSteps.in_front, specs.Calls.IsNew}
+use Rattle.shared_device.{specs.Passing.IsNewPass, proofs.Fresh.each_led}
 use Rattle.shared_device.proofs.shared.Shared.passes.Goals as goal
 
 pub pass-requires-clause-new : goal.pass-requires-clause-new

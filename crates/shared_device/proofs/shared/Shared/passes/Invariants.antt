@@ -2,8 +2,7 @@ use Rattle.std.proofs.Common.{◌≡◌, ℕ, ◌+◌, ◌≤◌, length, vec_ca
 use mathlib.Core.Option.{some}
 use lib.ListN.{get_elem?}
 use Rattle.block_shard.specs.ruled_cells.specs.Calls.{AreNew}
-use Rattle.shared_device.specs.declared.pass.Pass.{Pass}
-use Rattle.shared_device.specs.Passing.{IsNewPass}
+use Rattle.shared_device.specs.{declared.pass.Pass.Pass, Passing.IsNewPass}
 use Rattle.shared_device.proofs.shared.Shared.passes.Given as goal
 
 abbrev pub invariant-loop-seat : goal.invariant-loop-seat

@@ -1,6 +1,5 @@
 use Rattle.std.proofs.Common.{◌≡◌, rules}
-use Rattle.shared_device.specs.Commanding.{actors_of}
-use Rattle.shared_device.proofs.NewPasses.{by_same_actors}
+use Rattle.shared_device.{specs.Commanding.actors_of, proofs.NewPasses.by_same_actors}
 use Rattle.shared_device.proofs.shared.Shared.start.Goals as goal
 
 pub returns-clause-each : goal.returns-clause-each

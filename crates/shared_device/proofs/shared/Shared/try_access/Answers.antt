@@ -1,10 +1,7 @@
 use Rattle.std.proofs.Common.{suc, ◌∙◌}
 use Rattle.dcd_base.specs.declared.steps.Stamp.{Stamp}
-use Rattle.block_shard.specs.journal_core.specs.declared.acts.Reply.{Reply}
-use Rattle.block_shard.specs.ruled_cells.specs.Seats.{turns_of}
-use Rattle.shared_device.proofs.Rests.{rests_after, rests_again}
-use Rattle.shared_device.proofs.Turns.{given_again, same_twice}
-use Rattle.shared_device.proofs.Visits.{visited_since}
+use Rattle.block_shard.specs.{journal_core.specs.declared.acts.Reply.Reply, ruled_cells.specs.Seats.turns_of}
+use Rattle.shared_device.proofs.{Rests.rests_after, Rests.rests_again, Turns.given_again, Turns.same_twice, Visits.visited_since}
 use Rattle.shared_device.proofs.shared.Shared.try_access.Goals as goal
 
 pub invariant_of-pass : goal.invariant_of-pass

@@ -1,11 +1,6 @@
-use Rattle.std.proofs.Common.{◌≡◌, sym, ◌∙◌, ap, is_some, false}
-use Rattle.std.specs.Map.{values_of}
-use Rattle.tag_refs.specs.Changes.{entry_changed}
-use Rattle.tag_refs.proofs.Changing.{tag_stays}
-use Rattle.tag_refs.proofs.Stores.{after_write, found_live}
-use Rattle.tag_refs.proofs.Tagged.{none_changed}
-use Rattle.tag_refs.specs.Tables.{has_entry}
-use Rattle.tag_refs.proofs.tables.Tags.change.Goals.{in-Some, in_default}
+use Rattle.std.{proofs.Common.◌≡◌, proofs.Common.sym, proofs.Common.◌∙◌, proofs.Common.ap, proofs.Common.is_some, proofs.Common.false, specs.Map.values_of}
+use Rattle.tag_refs.proofs.{Changing.tag_stays, Stores.after_write, Stores.found_live, Tagged.none_changed, tables.Tags.change.Goals.in-Some, tables.Tags.change.Goals.in_default}
+use Rattle.tag_refs.specs.{Changes.entry_changed, Tables.has_entry}
 use Rattle.tag_refs.proofs.tables.Tags.change.Goals as goal
 
 pub invariant_of-self : goal.invariant_of-self

@@ -1,6 +1,4 @@
-use Rattle.std.proofs.Common.{◌<◌, length, refl}
-use Rattle.std.proofs.lemmas.List.{take_more}
-use Rattle.std.proofs.lemmas.Option.{get_or_from_slice_get, slice_get_within}
+use Rattle.std.proofs.{Common.◌<◌, Common.length, Common.refl, lemmas.List.take_more, lemmas.Option.get_or_from_slice_get, lemmas.Option.slice_get_within}
 use Rattle.tag_refs.proofs.Tagged.{absent_before}
 use Rattle.tag_refs.proofs.tables.Tags.copy.Goals as goal
 

@@ -1,6 +1,5 @@
 use Rattle.std.proofs.Common.{ap, not, sym, ◌∙◌}
-use Rattle.tag_refs.specs.Tables.{has_entry}
-use Rattle.tag_refs.proofs.Tagged.{none_left}
+use Rattle.tag_refs.{specs.Tables.has_entry, proofs.Tagged.none_left}
 use Rattle.tag_refs.proofs.tables.Tags.end_unused.Goals as goal
 
 pub returns-clause-gone : goal.returns-clause-gone

@@ -1,11 +1,7 @@
 use Rattle.std.proofs.Common.{◌≡◌, List, [], ◌∷◌, length, arith, refl, sym, ◌∙◌, ap, None}
-use Rattle.std.specs.Map.{lookup}
-use Rattle.std.proofs.lemmas.Bool.{eqb-true}
-use Rattle.dcd_base.specs.declared.capacity.Tag.{Tag}
-use Rattle.dcd_base.specs.Words.{same_tag}
-use Rattle.tag_refs.proofs.Tagged.{lookup_stored}
-use Rattle.tag_refs.specs.Tables.{TagTable, entry_with}
-use Rattle.tag_refs.specs.declared.entries.TagEntry.{TagEntry}
+use Rattle.std.{specs.Map.lookup, proofs.lemmas.Bool.eqb-true}
+use Rattle.dcd_base.specs.{declared.capacity.Tag.Tag, Words.same_tag}
+use Rattle.tag_refs.{proofs.Tagged.lookup_stored, specs.Tables.TagTable, specs.Tables.entry_with, specs.declared.entries.TagEntry.TagEntry}
 use Rattle.tag_refs.proofs.tables.Tags.find.Goals as goal
 
 pub returns : goal.returns
